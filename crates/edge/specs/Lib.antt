@@ -1,0 +1,7 @@
+pub mod BoundedBytes
+pub mod Causes
+pub mod Files
+pub mod MemShelf
+pub mod MemSink
+pub mod Shelf
+pub mod Sink
