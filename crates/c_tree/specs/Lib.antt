@@ -1,0 +1,14 @@
+pub mod Accesses
+pub mod Arrays
+pub mod Counted
+pub mod Fault
+pub mod Inputs
+pub mod Instances
+pub mod Kinds
+pub mod Layout
+pub mod OneLoop
+pub mod Plain
+pub mod Reserved
+pub mod Run
+pub mod Trees
+pub mod Values

@@ -1,0 +1,26 @@
+//! The trees of a source and of a printed text, the values that stages hand on to one another, and
+//! the refusals of a text. `specs/Trees` gives the plain tree of a value, of which every clause
+//! speaks; `copy` gives a value with the same plain tree.
+#![tactic(auto)]
+
+mod affine;
+mod copied;
+mod expr;
+mod frame;
+mod memory;
+mod name;
+mod refusal;
+mod run;
+mod stmt;
+mod unit;
+
+pub use affine::{Affine, Affines, Terms};
+pub use copied::Copied;
+pub use expr::{BinOp, Expr, Exprs, Rel, UnOp};
+pub use frame::{ArrayCells, ArrayInfo, Arrays, Cells, Frame, Inputs, Ints, Site};
+pub use memory::OutOfMemory;
+pub use name::{Name, NameList};
+pub use refusal::{Counted, Refusal};
+pub use run::{ArrayNumbers, Ended, Flip, Lengths, Totals, Verdict};
+pub use stmt::{Stmt, Stmts, Tests};
+pub use unit::{Param, Params, Ranges, Unit, Words};

@@ -1,0 +1,110 @@
+//! What befalls a run, and how it ends.
+
+ghost use Rattle.std.specs.Prelude.{◌≡◌, ◌<◌, ◌↔◌, length, slice_get, IfSome, IsTrue};
+
+use crate::frame::Cells;
+use sqlite_items::Items;
+use std::marker::Model;
+
+/// One change of memory: the bit of the cell, row-major, of the array, in declared order, is inverted
+/// immediately before the access whose number is the place, or as the run ends where there is none.
+#[derive(Clone, Copy, Debug, PartialEq, Eq)]
+pub struct Flip {
+    pub array: u32,
+    pub cell: u64,
+    pub bit: u8,
+    pub place: u64,
+}
+
+/// What a run found. Arrays are numbered from 0 in declared order.
+#[derive(Debug, Drop)]
+pub enum Verdict {
+    /// A source ended.
+    Plain,
+    /// A printed text ended, and the totals of each array agree.
+    Balanced,
+    /// A printed text ended, and the totals of exactly these arrays differ.
+    Fault(ArrayNumbers),
+    /// A printed text met an index out of range for a read of this array.
+    Index(u32),
+    /// An access lay outside the extents of this array.
+    Outside(u32),
+}
+
+pub type ArrayNumbers = Items<u32>;
+
+/// The end of a run. A counter stays at 2^128 - 1 once there.
+#[derive(Debug, Drop)]
+pub struct Ended {
+    pub verdict: Verdict,
+    pub arrays: Cells,
+    pub totals: Totals,
+    pub accesses: u128,
+    pub prologue_turns: u128,
+    /// All turns of a source.
+    pub body_turns: u128,
+    pub tables: Lengths,
+}
+
+/// The length of each table that was made.
+pub type Lengths = Items<u64>;
+
+/// For each array, in declared order, its definition total and its use total, modulo 2^128.
+#[derive(Debug, Drop)]
+pub struct Totals {
+    pairs: Vec<(u128, u128)>,
+}
+
+impl Model for Totals {
+    ghost use Rattle.std.specs.Prelude.{List, ℕ};
+
+    ghost Value = { List (ℕ × ℕ) };
+
+    ghost view = { λ totals. totals.pairs.items };
+}
+
+impl Totals {
+    pub fn from_vec(pairs: Vec<(u128, u128)>) -> Totals
+        ensures { result ≡ pairs.items }
+    {
+        Totals { pairs }
+    }
+
+    pub fn into_vec(self) -> Vec<(u128, u128)>
+        ensures { result.items ≡ self }
+    {
+        let Totals { pairs } = self;
+        pairs
+    }
+
+    pub fn as_slice(&self) -> &[(u128, u128)]
+        ensures { result.now ≡ self.now }
+    {
+        self.pairs.as_slice()
+    }
+
+    /// Whether the two totals of the array are equal.
+    pub fn agree(&self, array: usize) -> bool
+        requires { array < length self.now }
+        ensures { IfSome (slice_get self.now array) (λ pair. IsTrue result ↔ (pair.0 ≡ pair.1)) }
+    {
+        let (definition, uses) = self.pairs[array];
+        definition == uses
+    }
+}
+
+#[cfg(test)]
+mod tests {
+    use super::*;
+    use std::test::Fail;
+
+    #[test]
+    fn totals_agree_where_the_pair_is_equal(rt: HostRuntime) -> Result<(), Fail> {
+        let pairs = vec![in rt.alloc(); (18, 18), (26, 34), (2, 18446744073709551618)]?;
+        let totals = Totals::from_vec(pairs);
+        assert!(rt; totals.agree(0));
+        assert!(rt; !totals.agree(1));
+        assert!(rt; !totals.agree(2), "they differ by 2^64");
+        Ok(())
+    }
+}
