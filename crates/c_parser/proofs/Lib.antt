@@ -1,0 +1,10 @@
+pub mod Fronts
+pub mod Numbers
+pub mod Tokens
+pub mod Marks
+pub mod Lines
+pub mod Ranges
+pub mod Sound
+pub mod Complete
+pub mod Whole
+pub mod More

@@ -1,0 +1,4 @@
+pub mod OneLoopText
+pub mod Outcome
+pub mod Reading
+pub mod Seen

@@ -1,0 +1,197 @@
+//! Texts that are read, and texts that are refused.
+
+use crate::parse;
+use c_tree::{BinOp, Expr, Name, Param, Refusal, Rel, Stmt, Unit};
+use std::alloc::Global;
+
+const SHIFT: &[u8] = b"#include <stdint.h>
+#pragma balance range n 1 1000
+void shift(int64_t n, uint64_t A[n]) {
+  for (int64_t i = 0; i < n - 1; i++)
+    A[i + 1] = A[i] + 1;
+}
+";
+
+fn read(alloc: Global, text: &[u8]) -> Result<Unit, Refusal> {
+    if text.len() > 16777216 {
+        return Err(Refusal::TextTooLong {
+            length: text.len() as u64,
+        });
+    }
+    parse(alloc, text)
+}
+
+fn is_word(name: &Name, word: &[u8]) -> bool {
+    name.bytes.as_slice() == word
+}
+
+fn is_variable(e: &Expr, word: &[u8]) -> bool {
+    match e {
+        Expr::Var(name) => is_word(name, word),
+        _ => false,
+    }
+}
+
+fn is_literal(e: &Expr, value: u64) -> bool {
+    match e {
+        Expr::Lit(n) => *n == value,
+        _ => false,
+    }
+}
+
+/// The name, moved by the operator and the number.
+fn is_moved(e: &Expr, word: &[u8], by: BinOp, amount: u64) -> bool {
+    match e {
+        Expr::Bin(op, a, b) => *op == by && is_variable(a, word) && is_literal(b, amount),
+        _ => false,
+    }
+}
+
+/// The subscript of a cell of `A`.
+fn subscript(e: &Expr) -> Option<&Expr> {
+    match e {
+        Expr::Cell(name, subscripts) => match subscripts.as_slice() {
+            [subscript] if is_word(name, b"A") => Some(subscript),
+            _ => None,
+        },
+        _ => None,
+    }
+}
+
+/// `A[i] + 1`
+fn is_next(e: &Expr) -> bool {
+    match e {
+        Expr::Bin(BinOp::Add, a, b) => match subscript(a) {
+            Some(at) => is_variable(at, b"i") && is_literal(b, 1),
+            None => false,
+        },
+        _ => false,
+    }
+}
+
+/// `A[i + 1] = A[i] + 1;`
+fn is_shift(statement: &Stmt) -> bool {
+    match statement {
+        Stmt::Assign {
+            target,
+            op: None,
+            value,
+        } => match subscript(target) {
+            Some(at) => is_moved(at, b"i", BinOp::Add, 1) && is_next(value),
+            None => false,
+        },
+        _ => false,
+    }
+}
+
+/// `for (int64_t i = 0; i < n - 1; i++)` before that.
+fn is_loop(statement: &Stmt) -> bool {
+    match statement {
+        Stmt::For {
+            var,
+            lo,
+            rel,
+            hi,
+            body,
+        } => {
+            let inner = match body.as_slice() {
+                [inner] => is_shift(inner),
+                _ => false,
+            };
+            inner
+                && is_word(var, b"i")
+                && is_literal(lo, 0)
+                && *rel == Rel::Lt
+                && is_moved(hi, b"n", BinOp::Sub, 1)
+        }
+        _ => false,
+    }
+}
+
+/// `int64_t n, uint64_t A[n]`
+fn are_params(params: &[Param]) -> bool {
+    match params {
+        [
+            Param::Int(size),
+            Param::Array {
+                name,
+                constant,
+                extents,
+            },
+        ] => {
+            let extent = match extents.as_slice() {
+                [extent] => is_variable(extent, b"n"),
+                _ => false,
+            };
+            extent && is_word(size, b"n") && is_word(name, b"A") && !*constant
+        }
+        _ => false,
+    }
+}
+
+fn are_ranges(ranges: &[(Name, i64, i64)]) -> bool {
+    match ranges {
+        [(name, lowest, highest)] => is_word(name, b"n") && *lowest == 1 && *highest == 1000,
+        _ => false,
+    }
+}
+
+#[test]
+fn reads_a_shift(rt: HostRuntime) {
+    let Ok(unit) = read(rt.alloc(), SHIFT) else {
+        panic!(rt; "refused");
+    };
+    assert!(rt; unit.version.is_none());
+    assert!(rt; are_ranges(unit.ranges.as_slice()));
+    assert!(rt; is_word(&unit.name, b"shift"));
+    assert!(rt; are_params(unit.params.as_slice()));
+    assert!(rt; unit.words.is_empty() && unit.wides.is_empty());
+    match unit.body.as_slice() {
+        [only] => assert!(rt; is_loop(only)),
+        _ => panic!(rt; "one loop"),
+    }
+}
+
+/// Spaced in other ways, and at the limits of a sum.
+#[test]
+fn reads_each_layout(rt: HostRuntime) {
+    let texts: [&[u8]; 8] = [
+        b"\n  \n#include <stdint.h>\n\n\t\n#pragma balance range n 1 1000\nvoid shift(int64_t n, uint64_t A[n]) {\n  for (int64_t i = 0; i < n - 1; i++)\n    A[i + 1] = A[i] + 1;\n}\n",
+        b"#pragma balance range n 1 1000\n#include <stdint.h>\n#include <stdlib.h>\nvoid shift(int64_t n, uint64_t A[n]) {\n  for (int64_t i = 0; i < n - 1; i++)\n    A[i + 1] = A[i] + 1;\n}\n",
+        b"#include <stdint.h>\n#pragma balance range n 1 1000\nvoid shift(int64_t n, uint64_t A[n]) { for (int64_t i = 0; i < n - 1; i++) A[i + 1] = A[i] + 1; }\n",
+        b"#include <stdint.h>\n#pragma balance range n 1 1000\nvoid shift(int64_t n, uint64_t A[n]) {\n\tfor (int64_t i\t=\t0; i < n - 1; i++)\n\t\tA[i + 1]\t=\tA[i] + 1;\n}\n",
+        b"#include <stdint.h>\n#pragma balance range n 1 1000\nvoid shift(int64_t n, uint64_t A[n]) {\n  for (int64_t i = 0; i<n-1; i++)\n    A[i + 1] = A[i] + 1;\n}\n",
+        b"#include <stdint.h>\n#pragma balance range n 1 1000\nvoid shift(int64_t n, uint64_t A[n]) {\n  for (int64_t i = 0; i < n - 1; i++)\n    A[i + 1] = A[i] + 1;\n}",
+        b"#include <stdint.h>\n#pragma balance range n 1 1000\nvoid shift(int64_t n, uint64_t A[n]) {\n  for (int64_t i = 0; i < n - 1; i++)\n    A[i + 1] = 1 + 1 + 1 + 1 + 1 + 1 + 1 + 1 + 1 + 1 + 1 + 1 + 1 + 1 + 1 + 1 + 1 + 1 + 1 + 1 + 1 + 1 + 1 + 1 + 1 + 1 + 1 + 1 + 1 + 1 + 1 + 1;\n}\n",
+        b"#include <stdint.h>\n#pragma balance range n 1 1000\nvoid shift(int64_t n, uint64_t A[n]) {\n  for (int64_t i = 0; i < n - 1; i++)\n    A[i + 1] = A[i] + A[i] + A[i] + A[i] + A[i] + A[i] + A[i] + A[i] + A[i] + A[i] + A[i] + A[i] + A[i] + A[i] + A[i] + A[i];\n}\n",
+    ];
+    for (i, text) in texts.iter().enumerate() {
+        assert!(rt; read(rt.alloc(), text).is_ok(), "text {i}");
+    }
+}
+
+/// `<=`, no last brace, no text, `08` as a bound of the loop and of the range, a range from 0, a reserved name, 33 items, 17 cells, a comment,
+/// `+ +` and an indented `#include`.
+#[test]
+fn refuses_other_forms(rt: HostRuntime) {
+    let texts: [&[u8]; 12] = [
+        b"#include <stdint.h>\n#pragma balance range n 1 1000\nvoid shift(int64_t n, uint64_t A[n]) {\n  for (int64_t i = 0; i <= n - 2; i++)\n    A[i + 1] = A[i] + 1;\n}\n",
+        b"#include <stdint.h>\n#pragma balance range n 1 1000\nvoid shift(int64_t n, uint64_t A[n]) {\n  for (int64_t i = 0; i < n - 1; i++)\n    A[i + 1] = A[i] + 1;\n",
+        b"",
+        b"#include <stdint.h>\n#pragma balance range n 1 1000\nvoid shift(int64_t n, uint64_t A[n]) {\n  for (int64_t i = 08; i < n - 1; i++)\n    A[i + 1] = A[i] + 1;\n}\n",
+        b"#include <stdint.h>\n#pragma balance range n 08 1000\nvoid shift(int64_t n, uint64_t A[n]) {\n  for (int64_t i = 0; i < n - 1; i++)\n    A[i + 1] = A[i] + 1;\n}\n",
+        b"#include <stdint.h>\n#pragma balance range n 0 1000\nvoid shift(int64_t n, uint64_t A[n]) {\n  for (int64_t i = 0; i < n - 1; i++)\n    A[i + 1] = A[i] + 1;\n}\n",
+        b"#include <stdint.h>\n#pragma balance range n 1 1000\nvoid bal_x(int64_t n, uint64_t A[n]) {\n  for (int64_t i = 0; i < n - 1; i++)\n    A[i + 1] = A[i] + 1;\n}\n",
+        b"#include <stdint.h>\n#pragma balance range n 1 1000\nvoid shift(int64_t n, uint64_t A[n]) {\n  for (int64_t i = 0; i < n - 1; i++)\n    A[i + 1] = 1 + 1 + 1 + 1 + 1 + 1 + 1 + 1 + 1 + 1 + 1 + 1 + 1 + 1 + 1 + 1 + 1 + 1 + 1 + 1 + 1 + 1 + 1 + 1 + 1 + 1 + 1 + 1 + 1 + 1 + 1 + 1 + 1;\n}\n",
+        b"#include <stdint.h>\n#pragma balance range n 1 1000\nvoid shift(int64_t n, uint64_t A[n]) {\n  for (int64_t i = 0; i < n - 1; i++)\n    A[i + 1] = A[i] + A[i] + A[i] + A[i] + A[i] + A[i] + A[i] + A[i] + A[i] + A[i] + A[i] + A[i] + A[i] + A[i] + A[i] + A[i] + A[i];\n}\n",
+        b"#include <stdint.h>\n#pragma balance range n 1 1000\nvoid shift(int64_t n, uint64_t A[n]) {\n  for (int64_t i = 0; i < n - 1; i++)\n    A[i + 1] = A[i] + 1; // next\n}\n",
+        b"#include <stdint.h>\n#pragma balance range n 1 1000\nvoid shift(int64_t n, uint64_t A[n]) {\n  for (int64_t i = 0; i < n - 1; i++)\n    A[i + 1] = A[i]+ +1;\n}\n",
+        b" #include <stdint.h>\n#pragma balance range n 1 1000\nvoid shift(int64_t n, uint64_t A[n]) {\n  for (int64_t i = 0; i < n - 1; i++)\n    A[i + 1] = A[i] + 1;\n}\n",
+    ];
+    for (i, text) in texts.iter().enumerate() {
+        assert!(rt;
+            matches!(read(rt.alloc(), text), Err(Refusal::Unbuilt)),
+            "text {i}"
+        );
+    }
+}
