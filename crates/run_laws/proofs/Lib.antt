@@ -1,0 +1,10 @@
+pub mod Replayed
+pub mod Within
+pub mod Steps
+pub mod Follows
+pub mod Runs
+pub mod OneLoop
+pub mod Alike
+pub mod Pieces
+pub mod Rows
+pub mod Cells

@@ -1,0 +1,4 @@
+pub mod Laws
+pub mod Logs
+pub mod Sources
+pub mod Rows
