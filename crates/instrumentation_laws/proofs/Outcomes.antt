@@ -1,0 +1,16 @@
+-- What holds where a run goes on.
+use Rattle.c_tree.specs.Run.{State, Outcome, goes_on, ends, Run, and_then}
+
+-- a run goes on, and this holds, or it ended and the other
+abbrev pub IfGoing : {A : Type 0} → Type 0 → (A → State → Type 0) → Outcome A → Type 0
+IfGoing bad P (goes_on a s) = P a s
+IfGoing bad P (ends e s) = bad
+
+pub going_then : {A B : Type 0} (bad : Type 0) (P : A → State → Type 0) (Q : B → State → Type 0) (o : Outcome A) (f : A → Run B) → IfGoing bad P o →
+    ((a : A) (s : State) → P a s → IfGoing bad Q (f a s)) → IfGoing bad Q (and_then o f)
+going_then bad P Q (goes_on a s) f p h = h a s p
+going_then bad P Q (ends e s) f p h = p
+
+-- a run goes on, and this holds
+abbrev pub MustGo : {A : Type 0} → (A → State → Type 0) → Outcome A → Type 0
+MustGo P o = IfGoing ⊥ P o

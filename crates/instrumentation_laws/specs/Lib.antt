@@ -1,0 +1,11 @@
+pub mod AccessList
+pub mod OwnNames
+pub mod Pieces
+pub mod PrologueTotals
+pub mod RegularSources
+pub mod RegularUnits
+pub mod RunningTotals
+pub mod Setting
+pub mod TextLaws
+pub mod UnitLaws
+pub mod WordValues
