@@ -1,0 +1,5 @@
+pub mod Countable
+pub mod Going
+pub mod Places
+pub mod Turns
+pub mod Laws

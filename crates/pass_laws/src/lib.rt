@@ -1,0 +1,36 @@
+//! The counting passes of an instrumented text: they always go on, make as many turns as the source, and count the uses of each definition.
+//! The laws stand on the run's definitions and on what the laws of instrumented texts ask of a piece.
+#![tactic(auto)]
+
+ghost use Rattle.pass_laws.specs.Laws.{CellsArePlaces, OneLoopIsReady, PassesCount, PassesCountInstances, PassesGoOn, PassesTurn, SourcesTurn, UnitsAreCounted, UnitsHavePieces, UnitsTurn, WritesArePlaces};
+
+/// From every state a pass goes on, makes no access, and sets its own two words and the count alone; at its place it makes as many turns as the source.
+pub fn passes_go_on()
+    ensures go_on { PassesGoOn }
+    ensures turn { PassesTurn }
+    ensures at_writes { WritesArePlaces }
+    ensures at_cells { CellsArePlaces }
+    ensures source_turns { SourcesTurn }
+    ensures unit_turns { UnitsTurn }
+{
+    run_laws::sources_follow_their_memory();
+}
+
+/// The piece of each assignment sets the count to the uses of the write that is made, and the piece of an array to those of the initial cell.
+pub fn passes_count()
+    ensures as_run { PassesCount }
+    ensures by_instances { PassesCountInstances }
+    ensures pieces { UnitsHavePieces }
+    ensures units { UnitsAreCounted }
+{
+    instrumentation_laws::regular_units_are_counted();
+}
+
+/// Each unit of the one-loop form has, for all sound inputs, whatever the laws of instrumented units ask of a source and of its pieces.
+pub fn one_loop_passes()
+    ensures { OneLoopIsReady }
+{
+    passes_go_on();
+    passes_count();
+    run_laws::one_loop_follows();
+}
