@@ -1,0 +1,5 @@
+pub mod Affine
+pub mod Head
+pub mod Items
+pub mod Printed
+pub mod Worked
