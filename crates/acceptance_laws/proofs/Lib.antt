@@ -1,0 +1,17 @@
+pub mod Before
+pub mod Declared
+pub mod Expressions
+pub mod Fine
+pub mod Loads
+pub mod Names
+pub mod Once
+pub mod OneLoop
+pub mod Passes
+pub mod Prologues
+pub mod Renamed
+pub mod Sources
+pub mod Statements
+pub mod TextWords
+pub mod Texts
+pub mod Totals
+pub mod Units

@@ -1,0 +1,100 @@
+-- The head of an instrumented unit declares what its text uses, and nothing of the names that loops have.
+use Rattle.std.proofs.Common.{◌≡◌, ℕ, true, false, List, [], ◌∷◌, ◌++◌, refl, sym, ◌∙◌, true≢false}
+use Rattle.std.specs.Prelude.{bytes_eq}
+use Rattle.std.proofs.lemmas.Bool.{or_from, or_left, or_right, false_from_ne_true}
+use Rattle.c_tree.specs.Plain.{Word, PlainParam}
+use Rattle.instrumentation.specs.Names.{register, result, count, definition_total, use_total, coordinate, pass_variable, active, counter, function_name, number_in}
+use Rattle.instrumentation.specs.Guarded.{array_names, own_words, total_names}
+use Rattle.acceptance.specs.Items.{Scope, is_among, is_int, param_name, is_param, is_scalar, is_declared}
+use Rattle.acceptance_laws.proofs.Names.{own, same_word, apart_as, apart_as', register_not_own, result_not_own, active_not_own, counter_not_own, count_not_own, definition_not_own, use_not_own}
+use Rattle.acceptance_laws.proofs.Expressions.{IsWideAt, int_param_of}
+use Rattle.acceptance_laws.proofs.Declared.{IsWordName, Declares, flat_name}
+use Rattle.acceptance_laws.proofs.TextWords.{OwnWords, scalar_append, last_words, has_result, has_active, has_counter, has_register, has_last, lacks, own_lacks}
+use Rattle.acceptance_laws.proofs.Totals.{totals_lack, total_used, total_defined, array_named}
+
+abbrev pub OwnParams : List PlainParam → Type 0
+OwnParams [] = Unit {0}
+OwnParams (p ∷ ps) = (own (param_name p) ≡ true) × OwnParams ps
+
+pub not_param : (ps : List PlainParam) (x : Word) → OwnParams ps → own x ≡ false → is_param ps x ≡ false
+not_param [] x h o = refl
+not_param (p ∷ ps) x h o = or_from _ _ (apart_as own (param_name p) x h.0 o) (not_param ps x h.1 o)
+
+-- ---- names that a text doesn't declare, though they aren't the source's
+
+pub record IsFree (x : Word) : Type 0 where
+  pub not_own : own x ≡ false
+  pub no_register : (j : ℕ) → bytes_eq (register j) x ≡ false
+  pub not_last : is_scalar last_words x ≡ false
+  pub not_count : bytes_eq count x ≡ false
+  pub no_definition : (a : ℕ) → bytes_eq (definition_total a) x ≡ false
+  pub no_use : (a : ℕ) → bytes_eq (use_total a) x ≡ false
+
+pub coordinate_free : (d : ℕ) → IsFree (coordinate d)
+unfolding coordinate register result active counter count definition_total use_total
+coordinate_free d = record { not_own = refl; no_register = λ j. refl; not_last = refl; not_count = refl; no_definition = λ a. refl; no_use = λ a. refl }
+
+pub variable_free : (d : ℕ) → IsFree (pass_variable d)
+unfolding pass_variable register result active counter count definition_total use_total
+variable_free d = record { not_own = refl; no_register = λ j. refl; not_last = refl; not_count = refl; no_definition = λ a. refl; no_use = λ a. refl }
+
+pub function_free : (g : Word) → IsFree (function_name g)
+unfolding function_name register result active counter count definition_total use_total
+function_free g = record { not_own = refl; no_register = λ j. refl; not_last = refl; not_count = refl; no_definition = λ a. refl; no_use = λ a. refl }
+
+pub function_differs : (g x : Word) → own x ≡ true → bytes_eq (function_name g) x ≡ false
+function_differs g x o = apart_as' own (function_name g) x (function_free g).not_own o
+
+pub variable_differs : (x : Word) (d : ℕ) → own x ≡ true → bytes_eq x (pass_variable d) ≡ false
+variable_differs x d o = apart_as own x (pass_variable d) o (variable_free d).not_own
+
+-- ---- the scope of an instrumented unit
+
+abbrev pub head_of : List PlainParam → List (Word × ℕ) → ℕ → Scope
+head_of ps ws n = record { params = ps; words = ws ++ own_words n; wides = count ∷ total_names 0 (array_names ps); loops = []; tables = [] }
+
+module _ (ps : List PlainParam) (ws : List (Word × ℕ)) (n : ℕ) (own_ps : OwnParams ps) (own_ws : OwnWords ws) where
+  abbrev head : Scope
+  head = head_of ps ws n
+
+  word_name : (x : Word) → own x ≡ false → is_scalar head.words x ≡ true → IsWordName head x
+  word_name x o h =
+      let p : is_param ps x ≡ false = not_param ps x own_ps o in
+      record {
+        declared = h;
+        unsigned = false_from_ne_true (is_int ps x) (λ e. true≢false (sym (int_param_of ps x e) ∙ p));
+        flat = flat_name head x p refl;
+      }
+
+  wide_name : (x : Word) → own x ≡ false → is_among head.wides x ≡ true → IsWideAt head x
+  wide_name x o h = record { declared = h; flat = flat_name head x (not_param ps x own_ps o) refl }
+
+  undeclared : (x : Word) → IsFree x → is_declared head x ≡ false
+  undeclared x h =
+      or_from _ _ (not_param ps x own_ps h.not_own)
+      (or_from _ _ (lacks ws own_ws n x h.not_own h.no_register h.not_last)
+      (or_from _ _ (or_from _ _ h.not_count (totals_lack x h.no_definition h.no_use 0 (array_names ps))) refl))
+
+  pub declares : (g : Word) → Declares (function_name g) (number_in (array_names ps)) n head
+  unfolding function_name coordinate pass_variable
+  declares g = record {
+    registers = λ j h. word_name (register j) (register_not_own j) (has_register ws own_ws n j h);
+    stored_word = word_name result result_not_own (has_last ws own_ws n result has_result);
+    active_word = word_name active active_not_own (has_last ws own_ws n active has_active);
+    counter_word = word_name counter counter_not_own (has_last ws own_ws n counter has_counter);
+    count_wide = wide_name count count_not_own (or_left _ (is_among (total_names 0 (array_names ps)) count) (same_word count));
+    used = λ x h. (let a = number_in (array_names ps) x in wide_name (use_total a) (use_not_own a) (or_right (bytes_eq count (use_total a)) _ (total_used 0 (array_names ps) x (array_named ps x h))));
+    defined = λ x h. (let a = number_in (array_names ps) x in wide_name (definition_total a) (definition_not_own a) (or_right (bytes_eq count (definition_total a)) _ (total_defined 0 (array_names ps) x (array_named ps x h))));
+    coordinates_free = λ d. undeclared (coordinate d) (coordinate_free d);
+    variables_free = λ d. undeclared (pass_variable d) (variable_free d);
+    coordinates_differ = λ d. refl;
+    variables_differ = λ d. refl;
+  }
+
+  -- a name of the source that the source doesn't declare
+  pub own_undeclared : (x : Word) → own x ≡ true → is_param ps x ≡ false → is_scalar ws x ≡ false → is_declared head x ≡ false
+  own_undeclared x o p w =
+      or_from _ _ p
+      (or_from _ _ (scalar_append ws (own_words n) x ∙ or_from _ _ w (own_lacks n x o))
+      (or_from _ _ (or_from _ _ (apart_as' own count x count_not_own o)
+      (totals_lack x (λ a. apart_as' own (definition_total a) x (definition_not_own a) o) (λ a. apart_as' own (use_total a) x (use_not_own a) o) 0 (array_names ps))) refl))
