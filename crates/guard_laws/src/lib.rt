@@ -1,0 +1,15 @@
+//! What an instrumented unit is worth: it ends balanced with its source's output, and reports a fault exactly where the cell's next access is a read.
+#![tactic(auto)]
+
+ghost use Rattle.guard_laws.specs.Guards.{OneLoopIsGuarded};
+
+/// Each unit of the one-loop form is guarded by its instrumented unit.
+pub fn one_loop_guards()
+    ensures { OneLoopIsGuarded }
+{
+    instrumentation_laws::every_unit_follows();
+    instrumentation_laws::every_unit_balances();
+    instrumentation_laws::every_unit_tells();
+    pass_laws::passes_go_on();
+    pass_laws::one_loop_passes();
+}
