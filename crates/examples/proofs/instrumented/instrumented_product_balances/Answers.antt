@@ -1,0 +1,21 @@
+use Rattle.std.proofs.Common.{refl}
+use Rattle.std.specs.Int.{int_wrap}
+use Rattle.std.specs.Fmt.{digits}
+use Rattle.instrumentation.specs.Names.{register, result, count, definition_total, use_total, coordinate, pass_variable, active, counter, function_name}
+use Rattle.examples.proofs.instrumented.instrumented_product_balances.Goals as goal
+
+pub returns-clause-verdict : goal.returns-clause-verdict
+unfolding int_wrap digits register result count definition_total use_total coordinate pass_variable active counter function_name
+returns-clause-verdict c = refl
+
+pub returns-clause-totals : goal.returns-clause-totals
+unfolding int_wrap digits register result count definition_total use_total coordinate pass_variable active counter function_name
+returns-clause-totals c = refl
+
+pub returns-clause-prologue_turns : goal.returns-clause-prologue_turns
+unfolding int_wrap digits register result count definition_total use_total coordinate pass_variable active counter function_name
+returns-clause-prologue_turns c = refl
+
+pub returns-clause-body_turns : goal.returns-clause-body_turns
+unfolding int_wrap digits register result count definition_total use_total coordinate pass_variable active counter function_name
+returns-clause-body_turns c = refl

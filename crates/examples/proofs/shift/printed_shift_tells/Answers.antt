@@ -1,0 +1,17 @@
+use Rattle.std.proofs.Common.{refl}
+use Rattle.std.specs.Int.{int_wrap}
+use Rattle.std.specs.Fmt.{digits}
+use Rattle.c_tree.specs.Fault.{disturbed}
+use Rattle.examples.proofs.shift.printed_shift_tells.Goals as goal
+
+pub returns-clause-verdict : goal.returns-clause-verdict
+unfolding int_wrap digits disturbed
+returns-clause-verdict c = refl
+
+pub returns-clause-arrays : goal.returns-clause-arrays
+unfolding int_wrap digits disturbed
+returns-clause-arrays c = refl
+
+pub returns-clause-totals : goal.returns-clause-totals
+unfolding int_wrap digits disturbed
+returns-clause-totals c = refl
