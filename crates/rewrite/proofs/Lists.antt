@@ -1,0 +1,33 @@
+-- Lists of statements and their plain forms.
+use Rattle.std.proofs.Common.{◌≡◌, List, [], ◌∷◌, ◌++◌, map, refl, sym, ap, ◌∙◌}
+use Rattle.std.proofs.lemmas.List.{append-nil}
+use Rattle.c_tree.specs.Plain.{PlainExpr, PlainExprs, no_exprs, more_exprs, PlainStmt, PlainStmts, no_stmts, more_stmts}
+use Rattle.c_tree.specs.Trees.{expr, exprs, exprs_of, stmt, stmts, stmts_of}
+use Rattle.c_tree.specs.declared.expr.Expr.{Expr}
+use Rattle.c_tree.specs.declared.stmt.Stmt.{Stmt}
+
+list_of : PlainStmts → List PlainStmt
+list_of no_stmts = []
+list_of (more_stmts s ss) = s ∷ list_of ss
+
+list_of-stmts_of : (ss : List PlainStmt) → list_of (stmts_of ss) ≡ ss
+unfolding list_of
+list_of-stmts_of [] = refl
+list_of-stmts_of (s ∷ ss) = ap (λ l. s ∷ l) (list_of-stmts_of ss)
+
+-- lists with the same plain form have the same plain statements
+pub same_statements : (xs ys : List Stmt) → stmts xs ≡ stmts ys → map stmt xs ≡ map stmt ys
+same_statements xs ys e = sym (list_of-stmts_of (map stmt xs)) ∙ ap list_of e ∙ list_of-stmts_of (map stmt ys)
+
+-- the expressions of a plain list
+abbrev pub expressions_of : PlainExprs → List PlainExpr
+expressions_of no_exprs = []
+expressions_of (more_exprs e es) = e ∷ expressions_of es
+
+pub exprs_of-expressions_of : (es : PlainExprs) → exprs_of (expressions_of es) ≡ es
+exprs_of-expressions_of no_exprs = refl
+exprs_of-expressions_of (more_exprs e es) = ap (more_exprs e) (exprs_of-expressions_of es)
+
+-- a list of expressions that is the list of a plain list is that plain list
+pub ends_expressions : (made : List Expr) (es : PlainExprs) → map expr made ++ [] ≡ expressions_of es → exprs made ≡ es
+ends_expressions made es e = ap exprs_of (sym (append-nil (map expr made)) ∙ e) ∙ exprs_of-expressions_of es

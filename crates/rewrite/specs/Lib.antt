@@ -1,0 +1,6 @@
+pub mod Around
+pub mod Built
+pub mod Counted
+pub mod Numbered
+pub mod Weight
+pub mod Words
