@@ -1,0 +1,139 @@
+-- What the ending of a plan says, by induction over the stages.
+use Rattle.std.proofs.Common.{◌≡◌, ◌⊎◌, ℕ, ◌<◌, ◌≤◌, List, [], ◌∷◌, ◌++◌, length, Option, Some, None, Result, Ok, Err, inl, inr, sym, ◌∙◌, ap, subst, refl, arith}
+use Rattle.std.proofs.lemmas.Option.{same_Some}
+use Rattle.edge.specs.Files.{file_of}
+use Rattle.c_tree.specs.Plain.{PlainUnit}
+use Rattle.c_tree.specs.declared.refusal.Refusal.{Refusal}
+use Rattle.c_tree.specs.declared.refusal.Refusal.TheVariants as refusal
+use Rattle.balance_cli.specs.Plans.{Plan, load, judge, print_unit, Files, Ends, Defined, Reaches, AsksOnly}
+use Rattle.balance_cli.specs.Sources.{Accepts, Refuses}
+use Rattle.balance_cli.specs.Statuses.{finish_status, ideal_status}
+use Rattle.balance_cli.specs.declared.stages.FileWord.{FileWord}
+use Rattle.balance_cli.specs.declared.stages.Output.{Output}
+use Rattle.balance_cli.specs.declared.stages.Stop.{Stop}
+use Rattle.balance_cli.specs.declared.stages.Stop.TheVariants.{ReadFault, TooLong, SourceRefused, NoMemory}
+
+-- neither a fault nor want of memory
+abbrev pub IsOwn : Result Output Stop → Type 0
+IsOwn (Ok output) = Unit {0}
+IsOwn (Err (ReadFault word)) = ⊥
+IsOwn (Err (TooLong word)) = Unit {0}
+IsOwn (Err (SourceRefused refusal)) = Unit {0}
+IsOwn (Err NoMemory) = ⊥
+
+-- a fault at this load
+abbrev pub IsFaultAt : FileWord → Result Output Stop → Type 0
+IsFaultAt at (Ok output) = ⊥
+IsFaultAt at (Err (ReadFault word)) = at ≡ word
+IsFaultAt at (Err (TooLong word)) = ⊥
+IsFaultAt at (Err (SourceRefused refusal)) = ⊥
+IsFaultAt at (Err NoMemory) = ⊥
+
+-- an ending of the plan's own is the defined one
+pub defined_end : (plan : Plan) (files : Files) (rose : Type 0) (names : List (List ℕ)) (outcome : Result Output Stop) → IsOwn outcome → Ends plan files rose names outcome → Defined plan files outcome
+unfolding Ends Defined
+defined_end (load word name limit next) files rose names outcome own (inl h) = absurd (subst IsOwn h.1 own)
+defined_end (load word name limit next) files rose names outcome own (inr (inl h)) = absurd (subst IsOwn h.1 own)
+defined_end (load word name limit next) files rose names outcome own (inr (inr (inl h))) = inr (inl (h.2, h.1))
+defined_end (load word name limit next) files rose names outcome own (inr (inr (inr h))) =
+    inr (inr (h.0, h.2, h.3, defined_end (next h.0) files rose h.1 outcome own h.5))
+defined_end (judge text next) files rose names outcome own (inl h) = absurd (subst IsOwn h.1 own)
+defined_end (judge text next) files rose names outcome own (inr (inl h)) = inl (h.0, h.1, h.3)
+defined_end (judge text next) files rose names outcome own (inr (inr h)) = inr (h.0, h.1, defined_end (next h.0) files rose names outcome own h.2)
+defined_end (print_unit source) files rose names outcome own (e, inl h) = h
+defined_end (print_unit source) files rose names outcome own (e, inr h) = absurd (subst IsOwn h own)
+
+-- a fault has its cause, at a load that is reached
+pub fault_end : (plan : Plan) (files : Files) (rose : Type 0) (names : List (List ℕ)) (at : FileWord) (outcome : Result Output Stop) → IsFaultAt at outcome → Ends plan files rose names outcome → rose × Reaches plan files at
+unfolding Ends Reaches
+fault_end (load word name limit next) files rose names at outcome fault (inl h) = absurd (subst (IsFaultAt at) h.1 fault)
+fault_end (load word name limit next) files rose names at outcome fault (inr (inl h)) = (h.2, inl (subst (IsFaultAt at) h.1 fault))
+fault_end (load word name limit next) files rose names at outcome fault (inr (inr (inl h))) = absurd (subst (IsFaultAt at) h.1 fault)
+fault_end (load word name limit next) files rose names at outcome fault (inr (inr (inr h))) =
+    let rest = fault_end (next h.0) files rose h.1 at outcome fault h.5 in (rest.0, inr (h.0, h.2, h.3, rest.1))
+fault_end (judge text next) files rose names at outcome fault (inl h) = absurd (subst (IsFaultAt at) h.1 fault)
+fault_end (judge text next) files rose names at outcome fault (inr (inl h)) = absurd (subst (IsFaultAt at) h.3 fault)
+fault_end (judge text next) files rose names at outcome fault (inr (inr h)) =
+    let rest = fault_end (next h.0) files rose names at outcome fault h.2 in (rest.0, (h.0, h.1, rest.1))
+fault_end (print_unit source) files rose names at outcome fault (e, inl h) = absurd (subst (IsFaultAt at) h.2 fault)
+fault_end (print_unit source) files rose names at outcome fault (e, inr h) = absurd (subst (IsFaultAt at) h fault)
+
+none_asked : (names words : List (List ℕ)) → names ≡ [] → (others : List (List ℕ)) × (words ≡ names ++ others)
+none_asked names words none = (words, ap (λ ns. ns ++ words) (sym none))
+
+-- the names asked are a prefix of the plan's
+pub asked_end : (plan : Plan) (words : List (List ℕ)) (files : Files) (rose : Type 0) (names : List (List ℕ)) (outcome : Result Output Stop) → AsksOnly plan words → Ends plan files rose names outcome → (others : List (List ℕ)) × (words ≡ names ++ others)
+unfolding Ends
+asked_end (load word name limit next) [] files rose names outcome asks ends = absurd asks
+asked_end (load word name limit next) (first ∷ words) files rose names outcome asks (inl h) = none_asked names (first ∷ words) h.0
+asked_end (load word name limit next) (first ∷ words) files rose names outcome asks (inr (inl h)) =
+    (words, ap (λ n. n ∷ words) (sym asks.0) ∙ ap (λ ns. ns ++ words) (sym h.0))
+asked_end (load word name limit next) (first ∷ words) files rose names outcome asks (inr (inr (inl h))) =
+    (words, ap (λ n. n ∷ words) (sym asks.0) ∙ ap (λ ns. ns ++ words) (sym h.0))
+asked_end (load word name limit next) (first ∷ words) files rose names outcome asks (inr (inr (inr h))) =
+    let rest = asked_end (next h.0) words files rose h.1 outcome (asks.1 h.0) h.5 in
+    (rest.0, ap (λ n. n ∷ words) (sym asks.0) ∙ ap (λ ws. name ∷ ws) rest.1 ∙ ap (λ ns. ns ++ rest.0) (sym h.4))
+asked_end (judge text next) words files rose names outcome asks (inl h) = none_asked names words h.0
+asked_end (judge text next) words files rose names outcome asks (inr (inl h)) = none_asked names words h.2
+asked_end (judge text next) words files rose names outcome asks (inr (inr h)) = asked_end (next h.0) words files rose names outcome (asks h.0) h.2
+asked_end (print_unit source) words files rose names outcome asks h = none_asked names words h.0
+
+-- a text that has a unit isn't refused
+judged_once : (text : List ℕ) (unit : PlainUnit) (why : Refusal) → Accepts text unit → Refuses text why → ⊥
+judged_once text unit refusal.Unbuilt one two = two unit one
+judged_once text unit _ one two = two
+
+-- a fault doesn't matter to this outcome
+abbrev pub IsCalmFor : Result Output Stop → Type 0 → Type 0
+IsCalmFor (Ok output) rose = rose → ⊥
+IsCalmFor (Err (ReadFault word)) rose = Unit {0}
+IsCalmFor (Err (TooLong word)) rose = rose → ⊥
+IsCalmFor (Err (SourceRefused why)) rose = rose → ⊥
+IsCalmFor (Err NoMemory) rose = rose → ⊥
+
+-- where a fault matters to it there is none
+fault_as_ideal : (word : FileWord) (rose : Type 0) (ideal : Result Output Stop) → IsCalmFor ideal rose → rose → ideal_status (Err (ReadFault word)) ≡ ideal_status ideal
+fault_as_ideal word rose (Ok output) calm r = absurd (calm r)
+fault_as_ideal word rose (Err (ReadFault w)) calm r = refl
+fault_as_ideal word rose (Err (TooLong w)) calm r = absurd (calm r)
+fault_as_ideal word rose (Err (SourceRefused why)) calm r = absurd (calm r)
+fault_as_ideal word rose (Err NoMemory) calm r = absurd (calm r)
+
+not_absent : (file : Option (List ℕ)) (bytes : List ℕ) → file ≡ None → file ≡ Some bytes → ⊥
+not_absent file bytes none some = cc
+
+-- the file can't be both longer than the limit and within it
+not_both : (file : Option (List ℕ)) (long short : List ℕ) (limit : ℕ) → limit < length long → file ≡ Some long → length short ≤ limit → file ≡ Some short → ⊥
+not_both file long short limit above one within two =
+    let lengths : length long ≡ length short = ap (λ b. length b) (same_Some long short (sym one ∙ two)) in absurd (omega arith)
+
+-- a text has one unit
+abbrev pub IsJudgedOnce : Type 0
+IsJudgedOnce = (text : List ℕ) (u v : PlainUnit) → Accepts text u → Accepts text v → u ≡ v
+
+-- over files that are told a plan ends as defined, but for faults and want of memory
+pub determined : IsJudgedOnce → (plan : Plan) (files : List (List ℕ × List ℕ)) (rose : Type 0) (names : List (List ℕ)) (outcome ideal : Result Output Stop) → IsCalmFor ideal rose → Ends plan (Some files) rose names outcome → Defined plan (Some files) ideal → (ideal_status outcome ≡ ideal_status ideal) ⊎ (outcome ≡ Err NoMemory)
+unfolding Ends Defined
+determined once (load word name limit next) files rose names outcome ideal calm (inl h) d = inr h.1
+determined once (load word name limit next) files rose names outcome ideal calm (inr (inl h)) d = inl (ap ideal_status h.1 ∙ fault_as_ideal word rose ideal calm h.2)
+determined once (load word name limit next) files rose names outcome ideal calm (inr (inr (inl h))) (inl d) = absurd (not_absent (file_of files name) h.2.0 d.0 h.2.2)
+determined once (load word name limit next) files rose names outcome ideal calm (inr (inr (inl h))) (inr (inl d)) = inl (ap ideal_status (h.1 ∙ sym d.1))
+determined once (load word name limit next) files rose names outcome ideal calm (inr (inr (inl h))) (inr (inr d)) =
+    absurd (not_both (file_of files name) h.2.0 d.0 limit h.2.1 h.2.2 d.1 d.2)
+determined once (load word name limit next) files rose names outcome ideal calm (inr (inr (inr h))) (inl d) = absurd (not_absent (file_of files name) h.0 d.0 h.3)
+determined once (load word name limit next) files rose names outcome ideal calm (inr (inr (inr h))) (inr (inl d)) =
+    absurd (not_both (file_of files name) d.0.0 h.0 limit d.0.1 d.0.2 h.2 h.3)
+determined once (load word name limit next) files rose names outcome ideal calm (inr (inr (inr h))) (inr (inr d)) =
+    let same : d.0 ≡ h.0 = same_Some d.0 h.0 (sym d.2 ∙ h.3) in
+    let P : List ℕ → Type 0 = λ b. Defined (next b) (Some files) ideal in
+    determined once (next h.0) files rose h.1 outcome ideal calm h.5 (subst P same d.3)
+determined once (judge text next) files rose names outcome ideal calm (inl h) d = inr h.1
+determined once (judge text next) files rose names outcome ideal calm (inr (inl h)) (inl d) = inl (ap ideal_status h.3 ∙ ap ideal_status (sym d.2))
+determined once (judge text next) files rose names outcome ideal calm (inr (inl h)) (inr d) = absurd (judged_once text d.0 h.0 d.1 h.1)
+determined once (judge text next) files rose names outcome ideal calm (inr (inr h)) (inl d) = absurd (judged_once text h.0 d.0 h.1 d.1)
+determined once (judge text next) files rose names outcome ideal calm (inr (inr h)) (inr d) =
+    let P : PlainUnit → Type 0 = λ u. Defined (next u) (Some files) ideal in
+    determined once (next h.0) files rose names outcome ideal calm h.2 (subst P (once text d.0 h.0 d.1 h.1) d.2)
+determined once (print_unit source) files rose names outcome ideal calm (e, inl h) d =
+    inl (ap ideal_status h.2 ∙ ap finish_status (h.1.done ∙ sym d.1.done) ∙ ap ideal_status (sym d.2))
+determined once (print_unit source) files rose names outcome ideal calm (e, inr h) d = inr h

@@ -1,0 +1,119 @@
+-- How a plan ends, stage by stage: what each stage of the code says makes the ending of the plan.
+use Rattle.std.proofs.Common.{◌≡◌, ◌⊎◌, ℕ, ◌≤◌, List, [], ◌∷◌, ◌++◌, Option, Some, None, option_map, Result, Ok, Err, MatchResult, inl, inr, sym, ◌∙◌, ap, refl, append_assoc, subst, arith}
+use Rattle.std.proofs.lemmas.List.{append-nil}
+use Rattle.edge.specs.Causes.{Rose}
+use Rattle.edge.specs.Shelf.{Told}
+use Rattle.c_tree.specs.Plain.{PlainUnit}
+use Rattle.c_tree.specs.OneLoop.{IsOneLoop}
+use Rattle.c_tree.specs.Trees.{unit}
+use Rattle.c_tree.specs.declared.refusal.Refusal.{Refusal}
+use Rattle.c_tree.specs.declared.refusal.Refusal.TheVariants as refusal
+use Rattle.c_tree.specs.declared.unit.Unit.{Unit as TheUnit}
+use Rattle.balance_cli.specs.Plans.{Plan, load, judge, print_unit, Files, Ends, Follows}
+use Rattle.balance_cli.specs.Printed.{IsPrinted}
+use Rattle.balance_cli.specs.Sources.{Accepts}
+use Rattle.balance_cli.specs.Stages.{IsLoad, IsJudged, stop_of}
+use Rattle.balance_cli.specs.declared.stages.FileWord.{FileWord}
+use Rattle.balance_cli.specs.declared.stages.Output.{Output}
+use Rattle.balance_cli.specs.declared.stages.Stop.{Stop}
+use Rattle.balance_cli.specs.declared.stages.Stop.TheVariants.{ReadFault, TooLong, SourceRefused, NoMemory}
+
+-- an accepted source is of the one-loop form
+pub form_of_accepted : (text : List ℕ) (u : PlainUnit) → Accepts text u → IsOneLoop u
+form_of_accepted text u is = record { parts = is.parts; allowed = is.allowed; same = is.unit }
+
+-- a count that rose after an earlier value rose since then
+rose_over : (first middle last : ℕ) → first ≤ middle → Rose middle last → Rose first last
+rose_over first middle last earlier rose = omega arith
+
+-- the weaker the cause of a fault, the more endings
+ends_over : (plan : Plan) (files : Files) {P Q : Type 0} (names : List (List ℕ)) (outcome : Result Output Stop) → (P → Q) → Ends plan files P names outcome → Ends plan files Q names outcome
+unfolding Ends
+ends_over (load word name limit next) files names outcome f (inl h) = inl h
+ends_over (load word name limit next) files names outcome f (inr (inl h)) = inr (inl (h.0, h.1, f h.2))
+ends_over (load word name limit next) files names outcome f (inr (inr (inl h))) = inr (inr (inl h))
+ends_over (load word name limit next) files names outcome f (inr (inr (inr h))) = inr (inr (inr (h.0, h.1, h.2, h.3, h.4, ends_over (next h.0) files h.1 outcome f h.5)))
+ends_over (judge text next) files names outcome f (inl h) = inl h
+ends_over (judge text next) files names outcome f (inr (inl h)) = inr (inl h)
+ends_over (judge text next) files names outcome f (inr (inr h)) = inr (inr (h.0, h.1, ends_over (next h.0) files names outcome f h.2))
+ends_over (print_unit source) files names outcome f h = h
+
+asked_twice : (asked : Option (List (List ℕ))) (names more : List (List ℕ)) → option_map (λ a. a ++ more) (option_map (λ a. a ++ names) asked) ≡ option_map (λ a. a ++ (names ++ more)) asked
+asked_twice None names more = refl
+asked_twice (Some a) names more = ap Some (append_assoc a names more)
+
+-- after a load that gave bytes, the rest of the plan
+pub follows_load : (word : FileWord) (name : List ℕ) (limit : ℕ) (next : List ℕ → Plan) (before middle now : Told) (bytes : List ℕ) (outcome : Result Output Stop) → IsLoad word name limit before middle (Ok bytes) → Follows (next bytes) middle now outcome → Follows (load word name limit next) before now outcome
+unfolding Ends
+follows_load word name limit next before middle now bytes outcome one rest = record {
+  files = rest.files ∙ one.0.files;
+  later = omega (arith, one.0.later, rest.later);
+  names = name ∷ rest.names;
+  asked = rest.asked ∙ ap (option_map (λ a. a ++ rest.names)) one.0.asked ∙ asked_twice before.asked (name ∷ []) rest.names;
+  ends = inr (inr (inr (
+    bytes,
+    rest.names,
+    one.1,
+    one.2,
+    refl,
+    ends_over (next bytes) before.files rest.names outcome (rose_over before.faults middle.faults now.faults one.0.later)
+        (rw one.0.files at rest.ends),
+  )));
+}
+
+-- a load that ends the plan
+pub follows_stop : (word : FileWord) (name : List ℕ) (limit : ℕ) (next : List ℕ → Plan) (before now : Told) (cause : Stop) → IsLoad word name limit before now (Err cause) → Follows (load word name limit next) before now (Err cause)
+unfolding Ends
+follows_stop word name limit next before now (ReadFault w) one = record { files = one.0.files; later = one.0.later; names = name ∷ []; asked = one.0.asked; ends = inr (inl (refl, ap (λ x. Err (ReadFault x)) one.1, one.2)) }
+follows_stop word name limit next before now (TooLong w) one = record { files = one.0.files; later = one.0.later; names = name ∷ []; asked = one.0.asked; ends = inr (inr (inl (refl, ap (λ x. Err (TooLong x)) one.1, one.2))) }
+follows_stop word name limit next before now (SourceRefused refusal) one = absurd one
+follows_stop word name limit next before now NoMemory one = record { files = one.files; later = one.later; names = []; asked = one.asked; ends = inl (refl, refl) }
+
+pub asked_nothing : (asked : Option (List (List ℕ))) → asked ≡ option_map (λ a. a ++ []) asked
+asked_nothing None = refl
+asked_nothing (Some a) = ap Some (sym (append-nil a))
+
+-- a plan that loads nothing more
+follows_still : (plan : Plan) (now : Told) (outcome : Result Output Stop) → ((rose : Type 0) → Ends plan now.files rose [] outcome) → Follows plan now now outcome
+follows_still plan now outcome ends = record { files = refl; later = omega arith; names = []; asked = asked_nothing now.asked; ends = ends (Rose now.faults now.faults) }
+
+-- a text that is read through a reference
+judged_at : (text seen : List ℕ) (result : Result TheUnit Stop) → seen ≡ text → IsJudged seen result → IsJudged text result
+judged_at text seen result same one = subst (λ (t : List ℕ). IsJudged t result) same one
+
+-- what a refusal of the parser says
+pub judged_refusal : (text : List ℕ) (why : Refusal) → (why ≡ refusal.Unbuilt → (u : PlainUnit) → Accepts text u → ⊥) → (why ≡ refusal.Unbuilt) ⊎ (why ≡ refusal.OutOfMemory) → IsJudged text (Err (stop_of why))
+judged_refusal text why none (inl is) = subst (λ (w : Refusal). IsJudged text (Err (stop_of w))) (sym is) (none is)
+judged_refusal text why none (inr is) = subst (λ (w : Refusal). IsJudged text (Err (stop_of w))) (sym is) tt
+
+-- a source text that is accepted, and the rest of the plan
+pub follows_judged : (text seen : List ℕ) (next : PlainUnit → Plan) (before now : Told) (u : TheUnit) (outcome : Result Output Stop) → seen ≡ text → IsJudged seen (Ok u) → Follows (next (unit u)) before now outcome → Follows (judge text next) before now outcome
+unfolding Ends
+follows_judged text seen next before now u outcome same one rest = record {
+  files = rest.files;
+  later = rest.later;
+  names = rest.names;
+  asked = rest.asked;
+  ends = inr (inr (unit u, judged_at text seen (Ok u) same one, rest.ends));
+}
+
+ends_refused : (text : List ℕ) (next : PlainUnit → Plan) (files : Files) (cause : Stop) → IsJudged text (Err cause) → (rose : Type 0) → Ends (judge text next) files rose [] (Err cause)
+unfolding Ends
+ends_refused text next files (SourceRefused refusal) one rose = inr (inl (refusal, one, refl, refl))
+ends_refused text next files NoMemory one rose = inl (refl, refl)
+ends_refused text next files (ReadFault w) one rose = absurd one
+ends_refused text next files (TooLong w) one rose = absurd one
+
+-- a source text that is refused
+pub follows_refused : (text seen : List ℕ) (next : PlainUnit → Plan) (now : Told) (cause : Stop) → seen ≡ text → IsJudged seen (Err cause) → Follows (judge text next) now now (Err cause)
+follows_refused text seen next now cause same one =
+    follows_still (judge text next) now (Err cause) (ends_refused text next now.files cause (judged_at text seen (Err cause) same one))
+
+ends_printed : (source : PlainUnit) (files : Files) (outcome : Result Output Stop) → MatchResult outcome (IsPrinted source) (λ cause. cause ≡ NoMemory) → (rose : Type 0) → Ends (print_unit source) files rose [] outcome
+unfolding Ends
+ends_printed source files (Ok output) is rose = (refl, inl (output, is, refl))
+ends_printed source files (Err cause) is rose = (refl, inr (ap Err is))
+
+-- the last stage of a plan
+pub follows_printed : (source : PlainUnit) (now : Told) (outcome : Result Output Stop) → MatchResult outcome (IsPrinted source) (λ cause. cause ≡ NoMemory) → Follows (print_unit source) now now outcome
+follows_printed source now outcome is = follows_still (print_unit source) now outcome (ends_printed source now.files outcome is)

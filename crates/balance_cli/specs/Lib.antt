@@ -1,0 +1,16 @@
+pub mod Calls
+pub mod Commands
+pub mod KindOf
+pub mod Lines
+pub mod Met
+pub mod Orders
+pub mod Parts
+pub mod Plans
+pub mod Powers
+pub mod Printed
+pub mod Refusals
+pub mod Scopes
+pub mod Sources
+pub mod Stages
+pub mod Statuses
+pub mod Table

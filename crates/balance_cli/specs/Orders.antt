@@ -1,0 +1,19 @@
+-- The lists of words that are in form, and what each orders.
+use Rattle.std.specs.Prelude.{ℕ, List, [], ◌∷◌, Option, Some, None, Bool, false, ◌&&◌, not, ◌==◌, if◌then◌else◌, bytes_eq, codes}
+
+pub data Order : Type 0 where
+  -- print SOURCE
+  print : (source : List ℕ) → Order
+
+-- a name isn't empty and doesn't begin with `-`
+abbrev pub is_name : List ℕ → Bool
+is_name [] = false
+is_name (byte ∷ bytes) = not (byte == 45)
+
+abbrev pub order_of : List (List ℕ) → Option Order
+order_of (mode ∷ source ∷ []) = if bytes_eq mode (codes "print") && is_name source then Some (print source) else None
+order_of words = None
+
+-- the file words, in the order in which they are loaded
+abbrev pub files_of : Order → List (List ℕ)
+files_of (print source) = source ∷ []

@@ -1,0 +1,120 @@
+//! The top call.
+
+ghost use Rattle.std.specs.Prelude.{◌≡◌, ◌⊎◌, None, map, string_bytes};
+ghost use Rattle.balance_cli.specs.Calls.{IsWritten, IsCut, IsTold, IsCall, Tries};
+ghost use Rattle.balance_cli.specs.Commands.{ordered};
+ghost use Rattle.balance_cli.specs.Lines.{memory_line};
+ghost use Rattle.balance_cli.specs.Met.{met};
+ghost use Rattle.balance_cli.specs.Orders.{order_of};
+ghost use Rattle.balance_cli.specs.Statuses.{status_of as status_at, finish_status};
+ghost use Rattle.balance_cli.specs.Table.{Cause, AsksInOrder, EndsAsDefined};
+
+use crate::lines::{CANNOT_WRITE, NO_MEMORY, USAGE, line, try_line};
+use crate::stages::{Finish, Output, Stop, prepared};
+use crate::status::Status;
+use crate::words::{Command, command_of};
+use c_parser::one_unit;
+use edge::{Shelf, Sink, write_all};
+use std::alloc::Global;
+
+// The status of a cause.
+fn status_of(cause: Stop) -> Status
+    ensures { result ≡ status_at cause }
+{
+    match cause {
+        Stop::ReadFault(_) => Status::ReadFault,
+        Stop::TooLong(_) => Status::TooLong,
+        Stop::SourceRefused(_) => Status::SourceRefused,
+        Stop::NoMemory => Status::NoMemory,
+    }
+}
+
+// The status of a text that was written whole.
+fn finished(finish: Finish) -> Status
+    ensures { result ≡ finish_status finish }
+{
+    match finish {
+        Finish::Done => Status::Done,
+    }
+}
+
+/// Says that memory is wanting.
+pub fn no_memory<E: Sink>(err: &mut E) -> Status
+    ensures status { result ≡ Status.NoMemory }
+    ensures line { Tries (E.held err.old) (E.held err.new) memory_line }
+{
+    try_line(err, NO_MEMORY);
+    Status::NoMemory
+}
+
+fn refused<E: Sink>(alloc: Global, command: Command<'_>, cause: Stop, err: &mut E) -> Status
+    ensures { IsTold (ordered command.entry) cause (E.held err.old) (E.held err.new) result }
+{
+    match line(alloc, command, cause) {
+        Ok(line) => {
+            try_line(err, line.as_bytes());
+            status_of(cause)
+        }
+        Err(_) => no_memory(err),
+    }
+}
+
+fn written<O: Sink, E: Sink>(output: &Output, out: &mut O, err: &mut E) -> Status
+    ensures { IsWritten output.now (O.held out.old) (O.held out.new) (E.held err.old) (E.held err.new) result
+        ⊎ IsCut output.now (O.held out.old) (O.held out.new) (E.held err.old) (E.held err.new) result }
+{
+    match write_all(out, output.text.as_slice()) {
+        Ok(()) => finished(output.finish),
+        Err(_) => {
+            try_line(err, CANNOT_WRITE);
+            Status::WriteFault
+        }
+    }
+}
+
+fn answered<F: Shelf, O: Sink, E: Sink>(
+    alloc: Global,
+    words: &[String],
+    shelf: &mut F,
+    out: &mut O,
+    err: &mut E,
+) -> Status
+    ensures { IsCall (order_of (map string_bytes words.now)) (met F.told shelf.old shelf.new O.held out.old out.new E.held err.old err.new) result }
+{
+    match command_of(words) {
+        None => {
+            try_line(err, USAGE);
+            Status::Usage
+        }
+        Some(command) => match prepared(alloc, command, shelf) {
+            Ok(output) => written(&output, out, err),
+            Err(cause) => refused(alloc, command, cause, err),
+        },
+    }
+}
+
+/// Does what the words order. Texts go to `out`, and a line to `err` where there is no text.
+/// All memory is taken before the first write.
+pub fn balance<F: Shelf, O: Sink, E: Sink>(
+    alloc: Global,
+    words: &[String],
+    shelf: &mut F,
+    out: &mut O,
+    err: &mut E,
+) -> Status
+    // All that a call does: the stages in order, the names asked, and what each ending leaves.
+    ensures call { IsCall (order_of (map string_bytes words.now)) (met F.told shelf.old shelf.new O.held out.old out.new E.held err.old err.new) result }
+    // Each status comes by its cause, with its text and its line.
+    ensures cause { Cause (order_of (map string_bytes words.now)) (met F.told shelf.old shelf.new O.held out.old out.new E.held err.old err.new) result }
+    // Usage comes by the words alone, and words out of form order nothing.
+    ensures usage_only { result ≡ Status.Usage → order_of (map string_bytes words.now) ≡ None }
+    ensures usage { order_of (map string_bytes words.now) ≡ None → (result ≡ Status.Usage) ⊎ (result ≡ Status.NoMemory) }
+    ensures asked { AsksInOrder (order_of (map string_bytes words.now)) (met F.told shelf.old shelf.new O.held out.old out.new E.held err.old err.new) }
+    ensures complete { EndsAsDefined (order_of (map string_bytes words.now)) (met F.told shelf.old shelf.new O.held out.old out.new E.held err.old err.new) result }
+{
+    one_unit();
+    answered(alloc, words, shelf, out, err)
+}
+
+#[cfg(test)]
+mod tests;

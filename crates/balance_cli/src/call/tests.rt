@@ -1,0 +1,214 @@
+//! Calls over files and sinks in memory.
+
+use super::balance;
+use crate::status::Status;
+use edge::{ByteList, FileList, MemShelf, MemSink, NamedFile, Numbers};
+use std::alloc::{AllocError, Global};
+use std::test::Fail;
+
+const SHIFT: &str = "#include <stdint.h>\n\
+#pragma balance range n 1 1000\n\
+void shift(int64_t n, uint64_t A[n]) {\n  \
+for (int64_t i = 0; i < n - 1; i++)\n    \
+A[i + 1] = A[i] + 1;\n\
+}\n";
+
+const OTHER_BOUND: &str = "#include <stdint.h>\n\
+#pragma balance range n 1 1000\n\
+void shift(int64_t n, uint64_t A[n]) {\n  \
+for (int64_t i = 0; i <= n - 2; i++)\n    \
+A[i + 1] = A[i] + 1;\n\
+}\n";
+
+// How the printed text of `SHIFT` begins.
+const FIRST_LINES: &str = "#include <stdint.h>\n\
+#include <stdlib.h>\n\
+static inline uint64_t umin(uint64_t a, uint64_t b) { return a < b ? a : b; }\n\
+static inline uint64_t umax(uint64_t a, uint64_t b) { return a < b ? b : a; }\n\
+static inline int64_t bal_min(int64_t a, int64_t b) { return a < b ? a : b; }\n\
+static inline int64_t bal_max(int64_t a, int64_t b) { return a < b ? b : a; }\n\
+static inline unsigned __int128 bal_wide(uint64_t h, uint64_t l) { return (unsigned __int128)h << 64 | l; }\n\
+#pragma balance version 1\n\
+#pragma balance range n 1 1000\n\
+uint64_t bal_fn_shift(int64_t n, uint64_t A[n]) {\n";
+
+const USAGE: &str =
+    "balance: usage: print [--split] SOURCE | run FILE DATA [FLIP] | try SOURCE DATA [FLIP] | report SOURCE | demo NUMBER\n";
+
+// A file with blanks behind its text, up to a length.
+#[derive(Clone, Copy)]
+struct Source {
+    name: &'static str,
+    text: &'static str,
+    length: usize,
+}
+
+// Which load, which write to the output and which to the error stream fails. 0 is none.
+#[derive(Clone, Copy)]
+struct Failing {
+    load: u64,
+    write: u64,
+    line: u64,
+}
+
+const NONE: Failing = Failing {
+    load: 0,
+    write: 0,
+    line: 0,
+};
+
+// What a call leaves.
+#[derive(Drop)]
+struct Left {
+    status: Status,
+    out: MemSink,
+    err: MemSink,
+    loads: usize,
+}
+
+fn words_of(alloc: Global, line: &str) -> Result<Vec<String>, AllocError> {
+    let mut words = Vec::new(alloc);
+    for word in line.split_whitespace() {
+        words.push(String::from_str(alloc, word)?)?;
+    }
+    Ok(words)
+}
+
+fn one_number(alloc: Global, number: u64) -> Result<Numbers, Fail> {
+    let mut numbers = Numbers::new(alloc);
+    numbers.push(number)?;
+    Ok(numbers)
+}
+
+fn padded(alloc: Global, source: &Source) -> Result<NamedFile, Fail> {
+    let mut bytes = Vec::from_slice(alloc, source.text.as_bytes())?;
+    for _ in source.text.len()..source.length {
+        bytes.push(b' ')?;
+    }
+    let name = String::from_str(alloc, source.name)?;
+    Ok(NamedFile::new(name, ByteList::new(bytes)))
+}
+
+// Calls with these words over a shelf that has this file alone. A write takes 8 bytes at most.
+fn call(alloc: Global, source: &Source, line: &str, failing: Failing) -> Result<Left, Fail> {
+    let mut files = FileList::new(alloc);
+    files.push(padded(alloc, source)?)?;
+    let mut shelf = MemShelf::new(alloc, files, one_number(alloc, failing.load)?);
+    let mut out = MemSink::new(alloc, 9999, 8, one_number(alloc, failing.write)?)?;
+    let mut err = MemSink::new(alloc, 999, 8, one_number(alloc, failing.line)?)?;
+    let words = words_of(alloc, line)?;
+    let status = balance(alloc, &words, &mut shelf, &mut out, &mut err);
+    Ok(Left {
+        status,
+        out,
+        err,
+        loads: shelf.asked.len(),
+    })
+}
+
+const K1: Source = Source {
+    name: "k1.c",
+    text: SHIFT,
+    length: 0,
+};
+
+const FULL: Source = Source {
+    name: "full.c",
+    text: SHIFT,
+    length: 262_144,
+};
+
+const BIG: Source = Source {
+    name: "big.c",
+    text: SHIFT,
+    length: 262_145,
+};
+
+#[test]
+fn prints_the_instrumented_text(rt: HostRuntime) -> Result<(), Fail> {
+    for (source, line) in [(K1, "print k1.c"), (FULL, "print full.c")] {
+        let left = call(rt.alloc(), &source, line, NONE)?;
+        assert_eq!(rt; left.status, Status::Done, "{line}");
+        assert!(rt;
+            left.out
+                .bytes
+                .as_slice()
+                .starts_with(FIRST_LINES.as_bytes()),
+            "{line}"
+        );
+        assert_eq!(rt; left.err.bytes.as_slice(), b"".as_slice(), "{line}");
+    }
+    Ok(())
+}
+
+#[test]
+fn ends_by_the_table(rt: HostRuntime) -> Result<(), Fail> {
+    let other = Source {
+        name: "k1.c",
+        text: OTHER_BOUND,
+        length: 0,
+    };
+    let load = Failing { load: 1, ..NONE };
+    let write = Failing { write: 3, ..NONE };
+    let err = Failing { line: 1, ..NONE };
+    for (source, line, failing, status, loads, out, told) in [
+        (
+            other,
+            "print k1.c",
+            NONE,
+            Status::SourceRefused,
+            1,
+            "",
+            "balance: k1.c: S0 Unbuilt\n",
+        ),
+        (
+            K1,
+            "print none.c",
+            NONE,
+            Status::ReadFault,
+            1,
+            "",
+            "balance: cannot read none.c\n",
+        ),
+        (
+            K1,
+            "print k1.c",
+            load,
+            Status::ReadFault,
+            1,
+            "",
+            "balance: cannot read k1.c\n",
+        ),
+        (K1, "print", NONE, Status::Usage, 0, "", USAGE),
+        (K1, "", NONE, Status::Usage, 0, "", USAGE),
+        (K1, "print -k1.c", NONE, Status::Usage, 0, "", USAGE),
+        (K1, "fly k1.c", NONE, Status::Usage, 0, "", USAGE),
+        (K1, "print k1.c k1.c", NONE, Status::Usage, 0, "", USAGE),
+        (
+            BIG,
+            "print big.c",
+            NONE,
+            Status::TooLong,
+            1,
+            "",
+            "balance: big.c is longer than 262144 bytes\n",
+        ),
+        (
+            K1,
+            "print k1.c",
+            write,
+            Status::WriteFault,
+            1,
+            "#include <stdint",
+            "balance: cannot write\n",
+        ),
+        (K1, "print none.c", err, Status::ReadFault, 1, "", ""),
+    ] {
+        let left = call(rt.alloc(), &source, line, failing)?;
+        assert_eq!(rt; left.status, status, "{line}");
+        assert_eq!(rt; left.loads, loads, "{line}");
+        assert_eq!(rt; left.out.bytes.as_slice(), out.as_bytes(), "{line}");
+        assert_eq!(rt; left.err.bytes.as_slice(), told.as_bytes(), "{line}");
+    }
+    Ok(())
+}

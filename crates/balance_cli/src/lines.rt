@@ -1,0 +1,76 @@
+//! The lines on the error stream.
+
+ghost use Rattle.std.specs.Prelude.{◌≡◌, IfOk, string_bytes};
+ghost use Rattle.balance_cli.specs.Calls.{Tries};
+ghost use Rattle.balance_cli.specs.Commands.{ordered};
+ghost use Rattle.balance_cli.specs.Lines.{line_of, fault_line, too_long_line, refused_line, name_of as name_at, limit_of as limit_at};
+ghost use Rattle.balance_cli.specs.Refusals.{refusal_text as text_of};
+
+use crate::refusals::refusal_text;
+use crate::stages::{FileWord, SOURCE_LIMIT, Stop};
+use crate::words::Command;
+use c_tree::Refusal;
+use edge::{Sink, write_all};
+use std::alloc::{AllocError, Global};
+
+pub const USAGE: &[u8] =
+    b"balance: usage: print [--split] SOURCE | run FILE DATA [FLIP] | try SOURCE DATA [FLIP] | report SOURCE | demo NUMBER\n";
+
+pub const NO_MEMORY: &[u8] = b"balance: no memory\n";
+
+pub const CANNOT_WRITE: &[u8] = b"balance: cannot write\n";
+
+// The name of a file of a command.
+fn name_of<'a>(command: Command<'a>, word: FileWord) -> &'a str
+    ensures { result.now ≡ name_at (ordered command.entry) word }
+{
+    match (command, word) {
+        (Command::Print { source }, FileWord::Source) => source,
+    }
+}
+
+fn limit_of(word: FileWord) -> usize
+    ensures { result ≡ limit_at word }
+{
+    match word {
+        FileWord::Source => SOURCE_LIMIT,
+    }
+}
+
+fn fault(alloc: Global, name: &str) -> Result<String, AllocError>
+    ensures { IfOk result (λ line. string_bytes line ≡ fault_line name.now) }
+{
+    format!(in alloc; "balance: cannot read {name}\n")
+}
+
+fn too_long(alloc: Global, name: &str, limit: usize) -> Result<String, AllocError>
+    ensures { IfOk result (λ line. string_bytes line ≡ too_long_line name.now limit) }
+{
+    format!(in alloc; "balance: {name} is longer than {limit} bytes\n")
+}
+
+fn refused(alloc: Global, name: &str, refusal: Refusal) -> Result<String, AllocError>
+    ensures { IfOk result (λ line. string_bytes line ≡ refused_line name.now (text_of refusal)) }
+{
+    let why = refusal_text(alloc, refusal)?;
+    format!(in alloc; "balance: {name}: {why}\n")
+}
+
+/// The line of a cause.
+pub fn line(alloc: Global, command: Command<'_>, cause: Stop) -> Result<String, AllocError>
+    ensures { IfOk result (λ line. string_bytes line ≡ line_of (ordered command.entry) cause) }
+{
+    match cause {
+        Stop::ReadFault(word) => fault(alloc, name_of(command, word)),
+        Stop::TooLong(word) => { too_long(alloc, name_of(command, word), limit_of(word)) }
+        Stop::SourceRefused(refusal) => refused(alloc, name_of(command, FileWord::Source), refusal),
+        Stop::NoMemory => String::from_str(alloc, "balance: no memory\n"),
+    }
+}
+
+/// Writes a line. What fails here changes nothing else.
+pub fn try_line<E: Sink>(err: &mut E, line: &[u8])
+    ensures { Tries (E.held err.old) (E.held err.new) line.now }
+{
+    let _ = write_all(err, line);
+}

@@ -1,0 +1,35 @@
+//! The words of the command line.
+
+ghost use Rattle.std.specs.Prelude.{◌≡◌, map, option_map, string_bytes};
+ghost use Rattle.balance_cli.specs.Commands.{ordered};
+ghost use Rattle.balance_cli.specs.Orders.{order_of, is_name as is_name_of};
+
+/// What the words order.
+#[derive(Clone, Copy)]
+pub enum Command<'a> {
+    Print { source: &'a str },
+}
+
+// Not empty, and no option.
+fn is_name(word: &str) -> bool
+    ensures { result ≡ is_name_of word.now }
+{
+    match word.as_bytes() {
+        [] => false,
+        [first, ..] => *first != b'-',
+    }
+}
+
+/// The command, where the words are in form.
+pub fn command_of(words: &[String]) -> Option<Command<'_>>
+    ensures { option_map ordered result ≡ order_of (map string_bytes words.now) }
+{
+    match words {
+        [mode, source] if mode.as_str() == "print" && is_name(source.as_str()) => Some(
+            Command::Print {
+                source: source.as_str(),
+            },
+        ),
+        _ => None,
+    }
+}
