@@ -6,7 +6,6 @@ PREFIX ?= /usr/local
 .PHONY: run test install
 
 $(PROGRAM): $(shell find crates -name out -prune -o \( -name '*.rt' -o -name '*.antt' \) -print) crates.txt
-	rt all lib
 	cd crates/balance_cli && rt run -- print ../../examples/shift.c > /dev/null
 	touch $@
 
