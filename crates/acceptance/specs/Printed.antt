@@ -95,8 +95,21 @@ exprs_fit p begin = true
 exprs_fit p (check x extent a) = p extent
 exprs_fit p verdict = true
 
+-- the names that an item uses by themselves: the word that a check compares, and the totals that a verdict compares
+abbrev pub bare_names : List PlainParam → PlainStmt → List Word
+bare_names ps (check x extent a) = x ∷ []
+bare_names ps verdict = total_names_from 0 ps
+bare_names ps _ = []
+
+abbrev pub names_fit : Scope → PlainStmt → Bool
+names_fit sc s = list_all (λ x. nat_eq (dimensions sc x) 0) (bare_names sc.params s)
+
+-- At the head nothing is asked: an extent with a cell or an array's name isn't affine in earlier parameters.
 abbrev pub wrong_dimensions : PlainUnit → Condition
-wrong_dimensions u = record { head = false; inside = λ i. not (exprs_fit (fits_dimensions (dimensions (scope_at u i))) i.stmt) }
+wrong_dimensions u = record {
+  head = false;
+  inside = λ i. not (exprs_fit (fits_dimensions (dimensions (scope_at u i))) i.stmt && names_fit (scope_at u i) i.stmt);
+}
 
 -- ---- shift amounts and divisors
 

@@ -1,5 +1,5 @@
 -- Worked refusals: a small printed unit that is accepted, and what is refused where one part of it is another.
-use Rattle.std.specs.Prelude.{ℕ, suc, if◌then◌else◌, false, List, [], ◌∷◌, ◌++◌, pos, Some, None, codes}
+use Rattle.std.specs.Prelude.{ℕ, suc, if◌then◌else◌, true, false, List, [], ◌∷◌, ◌++◌, pos, Some, None, codes}
 use Rattle.c_tree.specs.Plain.{Word, PlainExpr, lit, var, cell, bin, widen, big, no_exprs, more_exprs, PlainStmt, loop, choice, assign, begin, verdict, no_stmts, PlainParam, int_param, array_param, PlainUnit}
 use Rattle.c_tree.specs.Trees.{stmts_of}
 use Rattle.c_tree.specs.declared.expr.Rel.TheVariants.{Lt, Le}
@@ -86,3 +86,7 @@ no_use_total = unit_with one_size (codes "bal_k" ∷ codes "bal_def0" ∷ []) la
 -- the loop's bound is a word
 abbrev pub word_bound : PlainUnit
 word_bound = unit_with one_size all_wides (var (codes "bal_w")) (codes "bal_use0")
+
+-- a second array has the name of a total
+abbrev pub array_total : PlainUnit
+array_total = unit_with (one_size ++ array_param (codes "bal_use0") true (more_exprs (var (codes "n")) no_exprs) ∷ []) all_wides last_but_one (codes "bal_use0")

@@ -64,7 +64,7 @@ pub record AreGood (sc : Scope) (es : PlainExprs) : Type 0 where
   pub fits : all_fit_dimensions (dimensions sc) es ≡ true
   pub literals : all_literals_fit es ≡ true
 
-flat_fits : (n : ℕ) → n ≡ 0 → nat_eq n 0 ≡ true
+pub flat_fits : (n : ℕ) → n ≡ 0 → nat_eq n 0 ≡ true
 flat_fits n h = ap (λ m. nat_eq m 0) h
 
 pub good_var : (sc : Scope) (x : Word) → is_known sc x ≡ true → dimensions sc x ≡ 0 → IsGood sc (var x)

@@ -7,13 +7,14 @@ use Rattle.c_tree.specs.Plain.{Word, PlainStmt, loop, choice, assign, table, beg
 use Rattle.c_tree.specs.Trees.{stmts_of}
 use Rattle.acceptance.specs.Items.{Loop, Item, items, items_all, tables_after, Condition, holds_nowhere, Scope, scope_of}
 use Rattle.acceptance.specs.Head.{extents_known, head_names_twice, bad_range, extent_not_affine, extent_terms_too_large, extent_too_wide, extent_not_positive}
-use Rattle.acceptance.specs.Printed.{item_name_twice, item_uses_known, fits_dimensions, dimensions, exprs_fit, literals_fit, has_kinds, extents_signed, name_twice, name_unknown, at_head, wrong_dimensions, bad_literal, wrong_kind, IsAcceptedPrinted}
+use Rattle.acceptance.specs.Printed.{item_name_twice, item_uses_known, fits_dimensions, dimensions, exprs_fit, names_fit, literals_fit, has_kinds, extents_signed, name_twice, name_unknown, at_head, wrong_dimensions, bad_literal, wrong_kind, IsAcceptedPrinted}
 
 -- no condition holds at an item, in the scope around it
 pub record IsFine (f : Word) (sc : Scope) (s : PlainStmt) : Type 0 where
   pub once : item_name_twice sc f s ≡ false
   pub known : item_uses_known sc s ≡ true
   pub fits : exprs_fit (fits_dimensions (dimensions sc)) s ≡ true
+  pub flat : names_fit sc s ≡ true
   pub literals : exprs_fit literals_fit s ≡ true
   pub kinds : has_kinds sc s ≡ true
 
@@ -110,7 +111,7 @@ accepted_by u version head body =
           (and_from _ _ (not_at_head u (extent_terms_too_large u) head.small)
           (and_from _ _ (not_at_head u (extent_too_wide u) head.narrow)
           (and_from _ _ (not_at_head u (extent_not_positive u) head.positive)
-          (and_from _ _ (nowhere u (wrong_dimensions u) refl (all_items _ f sc (λ s ls h. not_not _ h.fits) u.body [] body))
+          (and_from _ _ (nowhere u (wrong_dimensions u) refl (all_items _ f sc (λ s ls h. not_not _ (and_from _ _ h.fits h.flat)) u.body [] body))
           (and_from _ _ (nowhere u (bad_literal u) refl (all_items _ f sc (λ s ls h. not_not _ h.literals) u.body [] body))
           (and_from _ _ (nowhere u (wrong_kind u) (ap not head.signed) (all_items _ f sc (λ s ls h. not_not _ h.kinds) u.body [] body)) refl)))))))));
     }

@@ -21,7 +21,7 @@ use Rattle.acceptance_laws.proofs.Sources.{IsLoopName, AreSource}
 use Rattle.acceptance_laws.proofs.Passes.{pass_fine}
 use Rattle.acceptance_laws.proofs.Prologues.{AreArrays}
 use Rattle.acceptance_laws.proofs.Texts.{PiecesFine, guarded_fine}
-use Rattle.acceptance_laws.proofs.Units.{OwnParams, head_of, declares, own_undeclared, function_differs, variable_differs}
+use Rattle.acceptance_laws.proofs.Units.{OwnParams, head_of, totals_flat, declares, own_undeclared, function_differs, variable_differs}
 use Rattle.acceptance_laws.proofs.Totals.{verdict_declared}
 use Rattle.acceptance_laws.proofs.Once.{names_once}
 
@@ -195,4 +195,4 @@ one_loop_accepted u h = subst (λ (v : PlainUnit). IsAcceptedPrinted (guarded v)
     accepted l allowed =
         accepted_by (guarded (unit_of l)) refl (its_head l allowed)
         (guarded_fine (function_name l.function) (unit_of l).params (unit_of l).body (few l allowed) (head l allowed) (has l allowed) (omega arith) (omega arith)
-        (its_source l allowed) (its_arrays l allowed) (its_pieces l allowed) (verdict_declared (unit_of l).params))
+        (its_source l allowed) (its_arrays l allowed) (its_pieces l allowed) (verdict_declared (unit_of l).params) (totals_flat (unit_of l).params [] (few l allowed) (own_params l allowed) tt 0 (unit_of l).params))

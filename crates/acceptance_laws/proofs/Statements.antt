@@ -8,7 +8,7 @@ use Rattle.c_tree.specs.Kinds.{join, is_word}
 use Rattle.c_tree.specs.declared.expr.Rel.{Rel}
 use Rattle.c_tree.specs.declared.expr.BinOp.{BinOp}
 use Rattle.acceptance.specs.Items.{Scope, is_among, is_known}
-use Rattle.acceptance.specs.Printed.{dimensions, total_names_from, tests_use_known, tests_fit, fits_dimensions, literals_fit, kind_of, is_test, is_wide_op, is_wide_expr}
+use Rattle.acceptance.specs.Printed.{dimensions, total_names_from, tests_use_known, tests_fit, fits_dimensions, names_fit, literals_fit, kind_of, is_test, is_wide_op, is_wide_expr}
 use Rattle.acceptance_laws.proofs.Expressions.{IsWordAt, IsWideAt, IsGood, IsIndex, IsCellAt, IsData, IsWide, good_var, word_known, wide_known, index_good, index_signed, index_no_word, join_no_word, cell_good, data_good, data_word}
 use Rattle.acceptance_laws.proofs.Fine.{IsFine}
 
@@ -22,6 +22,7 @@ word_fine f sc x op e w d =
       once = refl;
       known = and_from _ _ t.known g.known;
       fits = and_from _ _ t.fits g.fits;
+      flat = refl;
       literals = g.literals;
       kinds = or_left _ (is_among sc.wides x && (is_wide_op op && is_wide_expr sc e)) (and_from _ _ w.declared (data_word sc e d));
     }
@@ -33,6 +34,7 @@ wide_fine f sc x op e o w d =
       once = refl;
       known = and_from _ _ t.known d.good.known;
       fits = and_from _ _ t.fits d.good.fits;
+      flat = refl;
       literals = d.good.literals;
       kinds = or_right _ _ (and_from _ _ w.declared (and_from _ _ o d.wide));
     }
@@ -45,6 +47,7 @@ store_fine f sc x at op e c d =
       once = refl;
       known = and_from _ _ t.known g.known;
       fits = and_from _ _ t.fits g.fits;
+      flat = refl;
       literals = and_from _ _ t.literals g.literals;
       kinds = and_from _ _ (data_word sc (cell x at) c) (data_word sc e d);
     }
@@ -83,7 +86,7 @@ tests_fine sc (t ∷ ts) h =
 pub choice_fine : (f : Word) (sc : Scope) (ts : List PlainTest) (first other : PlainStmts) → AreTests sc ts → IsFine f sc (choice ts first other)
 choice_fine f sc ts first other h =
     let m : TestsFine sc ts = tests_fine sc ts h in
-    record { once = refl; known = m.known; fits = m.fits; literals = m.literals; kinds = m.kinds }
+    record { once = refl; known = m.known; fits = m.fits; flat = refl; literals = m.literals; kinds = m.kinds }
 
 -- ---- loops
 
@@ -96,6 +99,7 @@ loop_fine f sc x lo rel hi body differs fresh l h =
       once = or_from _ _ differs fresh;
       known = and_from _ _ a.known b.known;
       fits = and_from _ _ a.fits b.fits;
+      flat = refl;
       literals = and_from _ _ a.literals b.literals;
       kinds = and_from _ _ (index_signed sc true lo l) (index_signed sc true hi h);
     }
@@ -106,5 +110,5 @@ all_known : (sc : Scope) (xs : List Word) → list_all (is_among sc.wides) xs �
 all_known sc [] h = refl
 all_known sc (x ∷ xs) h = (let p = and_parts (is_among sc.wides x) (list_all (is_among sc.wides) xs) h in and_from _ _ (wide_known sc x p.0) (all_known sc xs p.1))
 
-pub verdict_fine : (f : Word) (sc : Scope) → list_all (is_among sc.wides) (total_names_from 0 sc.params) ≡ true → IsFine f sc verdict
-verdict_fine f sc h = record { once = refl; known = all_known sc (total_names_from 0 sc.params) h; fits = refl; literals = refl; kinds = h }
+pub verdict_fine : (f : Word) (sc : Scope) → list_all (is_among sc.wides) (total_names_from 0 sc.params) ≡ true → names_fit sc verdict ≡ true → IsFine f sc verdict
+verdict_fine f sc h g = record { once = refl; known = all_known sc (total_names_from 0 sc.params) h; fits = refl; flat = g; literals = refl; kinds = h }

@@ -10,7 +10,7 @@ use Rattle.instrumentation.specs.Passes.{write_pieces_all, piece_at, cell_piece}
 use Rattle.instrumentation.specs.Prologue.{prologue_text}
 use Rattle.instrumentation.specs.Guarded.{arrays_with_extents, array_names, guarded_body}
 use Rattle.acceptance.specs.Items.{Loop, Scope, is_among}
-use Rattle.acceptance.specs.Printed.{total_names_from}
+use Rattle.acceptance.specs.Printed.{total_names_from, names_fit}
 use Rattle.acceptance_laws.proofs.Fine.{inside, TextFine, fine_join}
 use Rattle.acceptance_laws.proofs.Statements.{choice_fine, loop_fine, verdict_fine}
 use Rattle.acceptance_laws.proofs.Declared.{Declares, AreFree, unknown_free}
@@ -64,10 +64,10 @@ module _ (f : Word) (number : Word → ℕ) (few : ℕ) (sc : Scope) (declares :
 pub guarded_fine : (f : Word) (params : List PlainParam) (body : PlainStmts) (few : ℕ) (sc : Scope) → Declares f (number_in (array_names params)) few sc → 0 < few → registers_all body ≤ few →
     AreSource f sc body [] → AreArrays sc (number_in (array_names params)) 0 (arrays_with_extents params) →
     PiecesFine f sc (piece_at (write_pieces_all (number_in (array_names params)) body 0 body)) 0 body [] →
-    list_all (is_among sc.wides) (total_names_from 0 sc.params) ≡ true → TextFine f sc (guarded_body params body) []
-guarded_fine f params body few sc declares some enough source arrays pieces totals =
+    list_all (is_among sc.wides) (total_names_from 0 sc.params) ≡ true → names_fit sc verdict ≡ true → TextFine f sc (guarded_body params body) []
+guarded_fine f params body few sc declares some enough source arrays pieces totals flat =
     let number : Word → ℕ = number_in (array_names params) in
     let written : ℕ → List PlainStmt = piece_at (write_pieces_all number body 0 body) in
     fine_join f sc [] (prologue_text (cell_piece number body) 0 (arrays_with_extents params)) (begin ∷ (instrument_all number written 0 body ++ verdict ∷ []))
     (prologue_fine f number few sc declares some body source 0 (arrays_with_extents params) arrays)
-    (tt, fine_join f sc [] (instrument_all number written 0 body) (verdict ∷ []) (all_instrument_fine f number few sc declares written body 0 [] tt source enough pieces) (verdict_fine f (inside sc []) totals, tt))
+    (tt, fine_join f sc [] (instrument_all number written 0 body) (verdict ∷ []) (all_instrument_fine f number few sc declares written body 0 [] tt source enough pieces) (verdict_fine f (inside sc []) totals flat, tt))

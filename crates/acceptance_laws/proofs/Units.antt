@@ -1,13 +1,15 @@
 -- The head of an instrumented unit declares what its text uses, and nothing of the names that loops have.
-use Rattle.std.proofs.Common.{◌≡◌, ℕ, true, false, List, [], ◌∷◌, ◌++◌, refl, sym, ◌∙◌, true≢false}
-use Rattle.std.specs.Prelude.{bytes_eq}
-use Rattle.std.proofs.lemmas.Bool.{or_from, or_left, or_right, false_from_ne_true}
-use Rattle.c_tree.specs.Plain.{Word, PlainParam}
+use Rattle.std.proofs.Common.{◌≡◌, ℕ, suc, true, false, List, [], ◌∷◌, ◌++◌, refl, sym, ◌∙◌, true≢false}
+use Rattle.std.specs.Prelude.{bytes_eq, nat_eq}
+use Rattle.std.specs.List.{list_all}
+use Rattle.std.proofs.lemmas.Bool.{and_from, or_from, or_left, or_right, false_from_ne_true}
+use Rattle.c_tree.specs.Plain.{Word, PlainParam, int_param, array_param}
 use Rattle.instrumentation.specs.Names.{register, result, count, definition_total, use_total, coordinate, pass_variable, active, counter, function_name, number_in}
 use Rattle.instrumentation.specs.Guarded.{array_names, own_words, total_names}
 use Rattle.acceptance.specs.Items.{Scope, is_among, is_int, param_name, is_param, is_scalar, is_declared}
+use Rattle.acceptance.specs.Printed.{dimensions, total_names_from}
 use Rattle.acceptance_laws.proofs.Names.{own, same_word, apart_as, apart_as', register_not_own, result_not_own, active_not_own, counter_not_own, count_not_own, definition_not_own, use_not_own}
-use Rattle.acceptance_laws.proofs.Expressions.{IsWideAt, int_param_of}
+use Rattle.acceptance_laws.proofs.Expressions.{IsWideAt, int_param_of, flat_fits}
 use Rattle.acceptance_laws.proofs.Declared.{IsWordName, Declares, flat_name}
 use Rattle.acceptance_laws.proofs.TextWords.{OwnWords, scalar_append, last_words, has_result, has_active, has_counter, has_register, has_last, lacks, own_lacks}
 use Rattle.acceptance_laws.proofs.Totals.{totals_lack, total_used, total_defined, array_named}
@@ -98,3 +100,13 @@ module _ (ps : List PlainParam) (ws : List (Word × ℕ)) (n : ℕ) (own_ps : Ow
       (or_from _ _ (scalar_append ws (own_words n) x ∙ or_from _ _ w (own_lacks n x o))
       (or_from _ _ (or_from _ _ (apart_as' own count x count_not_own o)
       (totals_lack x (λ a. apart_as' own (definition_total a) x (definition_not_own a) o) (λ a. apart_as' own (use_total a) x (use_not_own a) o) 0 (array_names ps))) refl))
+
+  -- no total is the name of an array
+  pub totals_flat : (a : ℕ) (qs : List PlainParam) → list_all (λ x. nat_eq (dimensions head x) 0) (total_names_from a qs) ≡ true
+  unfolding definition_total use_total
+  totals_flat a [] = refl
+  totals_flat a (int_param x ∷ qs) = totals_flat a qs
+  totals_flat a (array_param x constant extents ∷ qs) =
+      and_from _ _ (flat_fits (dimensions head (definition_total a)) (flat_name head (definition_total a) (not_param ps (definition_total a) own_ps (definition_not_own a)) refl))
+      (and_from _ _ (flat_fits (dimensions head (use_total a)) (flat_name head (use_total a) (not_param ps (use_total a) own_ps (use_not_own a)) refl))
+      (totals_flat (suc a) qs))

@@ -11,6 +11,10 @@ pub returns-clause-used_undeclared : goal.returns-clause-used_undeclared
 unfolding digits
 returns-clause-used_undeclared c = refl
 
+pub returns-clause-total_of_cells : goal.returns-clause-total_of_cells
+unfolding digits
+returns-clause-total_of_cells c = refl
+
 pub returns-clause-bound_of_words : goal.returns-clause-bound_of_words
 unfolding digits
 returns-clause-bound_of_words c = refl
