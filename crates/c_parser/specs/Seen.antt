@@ -1,6 +1,7 @@
 -- The parts that the code reads, without where they lie in memory.
-use Rattle.std.specs.Prelude.{Bool, true, false, List, ℤ, map}
-use Rattle.c_tree.specs.Plain.{Word}
+use Rattle.std.specs.Prelude.{Bool, true, false, List, ℤ, map, None}
+use Rattle.c_tree.specs.Plain.{Word, PlainStmt, lit, loop, assign}
+use Rattle.c_tree.specs.declared.expr.Rel.TheVariants.{Lt}
 use Rattle.c_tree.specs.Trees.{word}
 use Rattle.c_tree.specs.declared.name.Name.{Name}
 use Rattle.c_tree.specs.OneLoop as form
@@ -38,6 +39,11 @@ body b = record { target = offset b.target; item = item b.item; items = map item
 
 abbrev pub one_loop : OneLoop → form.OneLoop
 one_loop l = spec.joined (range l.range) (head l.head) (turns l.turns) (body l.body)
+
+-- the loop of the parts
+abbrev pub loop_in : form.OneLoop → PlainStmt
+loop_in l = loop l.variable (lit l.first) Lt (form.offset_of l.size l.last)
+    (form.one_stmt (assign (form.cell_of l.array l.variable l.target) None (form.sum_from l.array l.variable (form.item_of l.array l.variable l.item) l.items)))
 
 -- range lines of a unit
 abbrev pub lines : List (Name × ℤ × ℤ) → List (Word × ℤ × ℤ)

@@ -42,6 +42,3 @@ pub fn parse(alloc: Global, text: &[u8]) -> Result<Unit, Refusal>
 pub fn one_unit()
     ensures { (text : List ℕ) (u v : PlainUnit) → IsOneLoopText text u → IsOneLoopText text v → u ≡ v }
 {}
-
-#[cfg(test)]
-mod tests;

@@ -8,7 +8,7 @@ ghost use Rattle.c_tree.specs.Trees as trees;
 ghost use Rattle.c_tree.specs.OneLoop as form;
 ghost use Rattle.c_parser.specs.Seen as seen;
 
-use crate::parts::{Body, Item, Offset, OneLoop, Range, Turns};
+use crate::parts::{Body, Item, Offset, OneLoop, Range};
 use c_tree::{BinOp, Expr, Name, OutOfMemory, Param, Params, Ranges, Rel, Stmt, Unit};
 use sqlite_items::Items;
 use std::alloc::Global;
@@ -112,26 +112,28 @@ fn assignment(
     })
 }
 
-/// `for (int64_t variable = first; variable < size ± last; variable++)` before the statement.
-fn loop_over(
-    alloc: Global,
-    size: &[u8],
-    turns: &Turns<'_>,
-    inner: Stmt,
-) -> Result<Stmt, OutOfMemory>
-    ensures { IfOk result (λ s. stmt s ≡ plain.loop turns.entry.now.variable.now (plain.lit turns.entry.now.first) Lt
-        (form.offset_of size.now (seen.offset turns.entry.now.last)) (form.one_stmt (stmt inner))) }
+/// `for (int64_t variable = first; variable < hi; variable++)` before the statements.
+fn loop_over(variable: Name, first: u64, hi: Expr, body: Items<Stmt>) -> Stmt
+    ensures { stmt result ≡ plain.loop (trees.word variable) (plain.lit first) Lt (expr hi) (trees.stmts body) }
 {
-    let var = name_of(alloc, turns.variable)?;
-    let hi = offset_expr(alloc, size, turns.last)?;
-    let body = single(alloc, inner)?;
-    Ok(Stmt::For {
-        var,
-        lo: Expr::Lit(turns.first),
+    Stmt::For {
+        var: variable,
+        lo: Expr::Lit(first),
         rel: Rel::Lt,
         hi,
         body,
-    })
+    }
+}
+
+/// The loop of the parts.
+fn loop_of(alloc: Global, parts: &OneLoop<'_>) -> Result<Stmt, OutOfMemory>
+    ensures { IfOk result (λ s. stmt s ≡ seen.loop_in (seen.one_loop parts.entry.now)) }
+{
+    let variable = parts.turns.variable;
+    let inner = assignment(alloc, parts.head.array, variable, &parts.body)?;
+    let body = single(alloc, inner)?;
+    let hi = offset_expr(alloc, parts.range.size, parts.turns.last)?;
+    Ok(loop_over(name_of(alloc, variable)?, parts.turns.first, hi, body))
 }
 
 /// The size, and the array of so many cells.
@@ -164,12 +166,10 @@ fn ranges_of(alloc: Global, range: &Range<'_>) -> Result<Ranges, OutOfMemory>
 pub fn unit_of(alloc: Global, parts: &OneLoop<'_>) -> Result<Unit, OutOfMemory>
     ensures { IfOk result (λ u. trees.unit u ≡ form.unit_of (seen.one_loop parts.entry.now)) }
 {
-    let inner = assignment(alloc, parts.head.array, parts.turns.variable, &parts.body)?;
-    let outer = loop_over(alloc, parts.range.size, &parts.turns, inner)?;
+    let body = single(alloc, loop_of(alloc, parts)?)?;
     let ranges = ranges_of(alloc, &parts.range)?;
-    let name = name_of(alloc, parts.head.function)?;
     let params = params_of(alloc, parts.range.size, parts.head.array)?;
-    let body = single(alloc, outer)?;
+    let name = name_of(alloc, parts.head.function)?;
     Ok(Unit {
         version: None,
         ranges,

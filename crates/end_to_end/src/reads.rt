@@ -1,6 +1,6 @@
 //! Texts that are read, and texts that are refused.
 
-use crate::parse;
+use c_parser::parse;
 use c_tree::{BinOp, Expr, Name, Param, Refusal, Rel, Stmt, Unit};
 use std::alloc::Global;
 

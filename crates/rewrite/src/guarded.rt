@@ -139,6 +139,3 @@ pub fn instrument_one(alloc: Global, u: &Unit) -> Result<Unit, OutOfMemory>
     acceptance_laws::one_loop_is_accepted();
     instrument(alloc, u)
 }
-
-#[cfg(test)]
-mod tests;

@@ -106,8 +106,8 @@ fn call(alloc: Global, source: &Source, line: &str, failing: Failing) -> Result<
     })
 }
 
-const K1: Source = Source {
-    name: "k1.c",
+const SHIFT_FILE: Source = Source {
+    name: "shift.c",
     text: SHIFT,
     length: 0,
 };
@@ -126,7 +126,7 @@ const BIG: Source = Source {
 
 #[test]
 fn prints_the_instrumented_text(rt: HostRuntime) -> Result<(), Fail> {
-    for (source, line) in [(K1, "print k1.c"), (FULL, "print full.c")] {
+    for (source, line) in [(SHIFT_FILE, "print shift.c"), (FULL, "print full.c")] {
         let left = call(rt.alloc(), &source, line, NONE)?;
         assert_eq!(rt; left.status, Status::Done, "{line}");
         assert!(rt;
@@ -144,7 +144,7 @@ fn prints_the_instrumented_text(rt: HostRuntime) -> Result<(), Fail> {
 #[test]
 fn ends_by_the_table(rt: HostRuntime) -> Result<(), Fail> {
     let other = Source {
-        name: "k1.c",
+        name: "shift.c",
         text: OTHER_BOUND,
         length: 0,
     };
@@ -154,15 +154,15 @@ fn ends_by_the_table(rt: HostRuntime) -> Result<(), Fail> {
     for (source, line, failing, status, loads, out, told) in [
         (
             other,
-            "print k1.c",
+            "print shift.c",
             NONE,
             Status::SourceRefused,
             1,
             "",
-            "balance: k1.c: S0 Unbuilt\n",
+            "balance: shift.c: S0 Unbuilt\n",
         ),
         (
-            K1,
+            SHIFT_FILE,
             "print none.c",
             NONE,
             Status::ReadFault,
@@ -171,19 +171,35 @@ fn ends_by_the_table(rt: HostRuntime) -> Result<(), Fail> {
             "balance: cannot read none.c\n",
         ),
         (
-            K1,
-            "print k1.c",
+            SHIFT_FILE,
+            "print shift.c",
             load,
             Status::ReadFault,
             1,
             "",
-            "balance: cannot read k1.c\n",
+            "balance: cannot read shift.c\n",
         ),
-        (K1, "print", NONE, Status::Usage, 0, "", USAGE),
-        (K1, "", NONE, Status::Usage, 0, "", USAGE),
-        (K1, "print -k1.c", NONE, Status::Usage, 0, "", USAGE),
-        (K1, "fly k1.c", NONE, Status::Usage, 0, "", USAGE),
-        (K1, "print k1.c k1.c", NONE, Status::Usage, 0, "", USAGE),
+        (SHIFT_FILE, "print", NONE, Status::Usage, 0, "", USAGE),
+        (SHIFT_FILE, "", NONE, Status::Usage, 0, "", USAGE),
+        (
+            SHIFT_FILE,
+            "print -shift.c",
+            NONE,
+            Status::Usage,
+            0,
+            "",
+            USAGE,
+        ),
+        (SHIFT_FILE, "fly shift.c", NONE, Status::Usage, 0, "", USAGE),
+        (
+            SHIFT_FILE,
+            "print shift.c shift.c",
+            NONE,
+            Status::Usage,
+            0,
+            "",
+            USAGE,
+        ),
         (
             BIG,
             "print big.c",
@@ -194,15 +210,23 @@ fn ends_by_the_table(rt: HostRuntime) -> Result<(), Fail> {
             "balance: big.c is longer than 262144 bytes\n",
         ),
         (
-            K1,
-            "print k1.c",
+            SHIFT_FILE,
+            "print shift.c",
             write,
             Status::WriteFault,
             1,
             "#include <stdint",
             "balance: cannot write\n",
         ),
-        (K1, "print none.c", err, Status::ReadFault, 1, "", ""),
+        (
+            SHIFT_FILE,
+            "print none.c",
+            err,
+            Status::ReadFault,
+            1,
+            "",
+            "",
+        ),
     ] {
         let left = call(rt.alloc(), &source, line, failing)?;
         assert_eq!(rt; left.status, status, "{line}");

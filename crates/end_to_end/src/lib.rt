@@ -1,0 +1,7 @@
+//! Tests that go across crates: texts that are read, refused and instrumented.
+#![tactic(auto)]
+
+#[cfg(test)]
+mod instruments;
+#[cfg(test)]
+mod reads;
