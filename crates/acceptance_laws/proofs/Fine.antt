@@ -6,6 +6,7 @@ use Rattle.std.proofs.lemmas.List.Folds.{list_all-append}
 use Rattle.c_tree.specs.Plain.{Word, PlainStmt, loop, choice, assign, table, begin, check, verdict, PlainStmts, no_stmts, more_stmts, PlainUnit}
 use Rattle.c_tree.specs.Trees.{stmts_of}
 use Rattle.acceptance.specs.Items.{Loop, Item, items, items_all, tables_after, Condition, holds_nowhere, Scope, scope_of}
+use Rattle.acceptance.specs.Runnable.{makes_no_table, all_make_no_table}
 use Rattle.acceptance.specs.Head.{extents_known, head_names_twice, bad_range, extent_not_affine, extent_terms_too_large, extent_too_wide, extent_not_positive}
 use Rattle.acceptance.specs.Printed.{item_name_twice, item_uses_known, fits_dimensions, dimensions, exprs_fit, names_fit, literals_fit, has_kinds, extents_signed, name_twice, name_unknown, at_head, wrong_dimensions, bad_literal, wrong_kind, IsAcceptedPrinted}
 
@@ -70,6 +71,21 @@ module _ (p : Item → Bool) (f : Word) (sc : Scope) (each : (s : PlainStmt) (ls
     all_items (more_stmts s ss) ls h =
         list_all-append p (items s ls sc.tables) (items_all ss ls (tables_after s sc.tables))
         ∙ and_from _ _ (each_item s ls h.0) (subst (λ ts. list_all p (items_all ss ls ts) ≡ true) (sym (tables_same f sc s ls h.0 sc.tables)) (all_items ss ls h.1))
+
+-- such statements make no table
+mutual
+  pub no_table : (f : Word) (sc : Scope) (s : PlainStmt) (ls : List Loop) → StmtFine f sc s ls → makes_no_table s ≡ true
+  no_table f sc (loop x lo rel hi body) ls h = no_tables f sc body (record { name = x; lo = lo; rel = rel; hi = hi } ∷ ls) h.1
+  no_table f sc (choice ts first other) ls h = and_from _ _ (no_tables f sc first ls h.1) (no_tables f sc other ls h.2)
+  no_table f sc (assign target op e) ls h = refl
+  no_table f sc (table x len) ls h = absurd h
+  no_table f sc begin ls h = refl
+  no_table f sc (check x extent a) ls h = refl
+  no_table f sc verdict ls h = refl
+
+  pub no_tables : (f : Word) (sc : Scope) (ss : PlainStmts) (ls : List Loop) → AllFine f sc ss ls → all_make_no_table ss ≡ true
+  no_tables f sc no_stmts ls h = refl
+  no_tables f sc (more_stmts s ss) ls h = and_from _ _ (no_table f sc s ls h.0) (no_tables f sc ss ls h.1)
 
 -- ---- units
 

@@ -1,5 +1,5 @@
 -- The instrumented unit of a source of the one-loop form: its names, its head and its text.
-use Rattle.std.proofs.Common.{◌≡◌, ℕ, ◌+◌, ◌≤◌, ◌^◌, Bool, true, false, not, List, [], ◌∷◌, refl, sym, ap, subst, arith, pos, Some, max}
+use Rattle.std.proofs.Common.{◌≡◌, ℕ, ◌+◌, ◌≤◌, ◌^◌, Bool, true, false, not, List, [], ◌∷◌, refl, sym, ap, subst, arith, inr, pos, Some, max}
 use Rattle.std.proofs.lemmas.Bool.{and_from, or_from, or_left, or_parts, le-leb, le-ltb}
 use Rattle.c_tree.specs.Plain.{Word, PlainExpr, lit, var, bin, no_exprs, more_exprs, PlainUnit}
 use Rattle.c_tree.specs.OneLoop.{Offset, bare, plus, minus, Item, number, element, OneLoop, IsName, IsAllowed, IsOneLoop, elements, offset_of, item_of, sum_from, unit_of}
@@ -13,9 +13,10 @@ use Rattle.acceptance.specs.Items.{Loop, Scope, is_declared}
 use Rattle.acceptance.specs.Head.{is_range}
 use Rattle.acceptance.specs.Affine.{lies_in}
 use Rattle.acceptance.specs.Printed.{IsAcceptedPrinted}
+use Rattle.acceptance.specs.Runnable.{all_make_no_table, IsRunnable}
 use Rattle.acceptance_laws.proofs.Names.{own, same_word, apart_sym}
 use Rattle.acceptance_laws.proofs.Expressions.{IsSignedAt, IsIndex, IsCellAt, IsData}
-use Rattle.acceptance_laws.proofs.Fine.{inside, HeadFine, accepted_by}
+use Rattle.acceptance_laws.proofs.Fine.{inside, HeadFine, AllFine, no_tables, accepted_by}
 use Rattle.acceptance_laws.proofs.Declared.{Declares}
 use Rattle.acceptance_laws.proofs.Sources.{IsLoopName, AreSource}
 use Rattle.acceptance_laws.proofs.Passes.{pass_fine}
@@ -188,11 +189,15 @@ module _ (l : OneLoop) (allowed : IsAllowed l) where
     signed = rw (same_word l.size) refl;
   }
 
+its_text : (l : OneLoop) (allowed : IsAllowed l) → AllFine (function_name l.function) (head l allowed) (guarded (unit_of l)).body []
+its_text l allowed =
+    guarded_fine (function_name l.function) (unit_of l).params (unit_of l).body (few l allowed) (head l allowed) (has l allowed) (omega arith) (omega arith)
+    (its_source l allowed) (its_arrays l allowed) (its_pieces l allowed) (verdict_declared (unit_of l).params) (totals_flat (unit_of l).params [] (few l allowed) (own_params l allowed) tt 0 (unit_of l).params)
+
 pub one_loop_accepted : (u : PlainUnit) → IsOneLoop u → IsAcceptedPrinted (guarded u)
-one_loop_accepted u h = subst (λ (v : PlainUnit). IsAcceptedPrinted (guarded v)) (sym h.same) (accepted h.parts h.allowed)
-  where
-    accepted : (l : OneLoop) → IsAllowed l → IsAcceptedPrinted (guarded (unit_of l))
-    accepted l allowed =
-        accepted_by (guarded (unit_of l)) refl (its_head l allowed)
-        (guarded_fine (function_name l.function) (unit_of l).params (unit_of l).body (few l allowed) (head l allowed) (has l allowed) (omega arith) (omega arith)
-        (its_source l allowed) (its_arrays l allowed) (its_pieces l allowed) (verdict_declared (unit_of l).params) (totals_flat (unit_of l).params [] (few l allowed) (own_params l allowed) tt 0 (unit_of l).params))
+one_loop_accepted u h = subst (λ (v : PlainUnit). IsAcceptedPrinted (guarded v)) (sym h.same)
+    (accepted_by (guarded (unit_of h.parts)) refl (its_head h.parts h.allowed) (its_text h.parts h.allowed))
+
+pub one_loop_runnable : (u : PlainUnit) → IsOneLoop u → IsRunnable (guarded u)
+one_loop_runnable u h = inr (one_loop_accepted u h, subst (λ (v : PlainUnit). all_make_no_table (guarded v).body ≡ true) (sym h.same)
+    (no_tables (function_name h.parts.function) (head h.parts h.allowed) (guarded (unit_of h.parts)).body [] (its_text h.parts h.allowed)))

@@ -9,6 +9,7 @@ ghost use Rattle.instrumentation.specs.Guarded as guarded;
 ghost use Rattle.instrumentation.specs.Names as names;
 ghost use Rattle.instrumentation.specs.Passes.{piece_at, write_pieces_all};
 ghost use Rattle.acceptance.specs.Printed.{IsAcceptedPrinted, StoresNothingBefore};
+ghost use Rattle.acceptance.specs.Runnable.{IsRunnable};
 ghost use Rattle.guard_laws.specs.Guards.{CountsUses, Guards, HasTotals, MakesSameAccesses, NamesTheArray, PassesTurnAsSource};
 ghost use Rattle.rewrite.specs.Numbered.{numbers};
 ghost use Rattle.rewrite.specs.Words.{plain_words};
@@ -124,6 +125,9 @@ pub fn instrument_one(alloc: Global, u: &Unit) -> Result<Unit, OutOfMemory>
     // As a text: accepted as a printed unit, with no store into an array before it begins.
     ensures accepted { IfOk result (λ made. IsAcceptedPrinted (unit made)) }
     ensures stores { IfOk result (λ made. StoresNothingBefore (unit made)) }
+
+    // And one that the interpreter runs.
+    ensures runs { IfOk result (λ made. IsRunnable (unit made)) }
 
     // On sound inputs: balanced with the source's output, and a fault is reported exactly where its cell's next access is a read.
     ensures guards { IfOk result (λ made. Guards (unit u.now) (unit made)) }

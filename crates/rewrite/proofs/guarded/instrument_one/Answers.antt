@@ -1,6 +1,7 @@
 use Rattle.c_tree.specs.Trees.{unit}
 use Rattle.instrumentation.specs.Guarded.{guarded}
 use Rattle.acceptance.specs.Printed.{IsAcceptedPrinted, StoresNothingBefore}
+use Rattle.acceptance.specs.Runnable.{IsRunnable}
 use Rattle.guard_laws.specs.Guards.{CountsUses, Guards, HasTotals, MakesSameAccesses, NamesTheArray, PassesTurnAsSource}
 use Rattle.rewrite.proofs.Made.{if_made, on_made}
 use Rattle.rewrite.proofs.Small.{one_loop_small}
@@ -14,6 +15,9 @@ returns-clause-accepted c = if_made _ (guarded (unit c.args.u.now)) IsAcceptedPr
 
 pub returns-clause-stores : goal.returns-clause-stores
 returns-clause-stores c = if_made _ (guarded (unit c.args.u.now)) StoresNothingBefore c.instrument.ensures (c.one_loop_is_accepted.ensures.stores _ c.requires)
+
+pub returns-clause-runs : goal.returns-clause-runs
+returns-clause-runs c = if_made _ (guarded (unit c.args.u.now)) IsRunnable c.instrument.ensures (c.one_loop_is_accepted.ensures.runs _ c.requires)
 
 pub returns-clause-guards : goal.returns-clause-guards
 returns-clause-guards c = if_made _ (guarded (unit c.args.u.now)) (Guards (unit c.args.u.now)) c.instrument.ensures (c.one_loop_guards.ensures _ c.requires).guards

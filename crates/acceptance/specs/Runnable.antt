@@ -1,0 +1,24 @@
+-- Which units the interpreter runs.
+use Rattle.std.specs.Prelude.{◌≡◌, ◌⊎◌, Bool, true, false, ◌&&◌}
+use Rattle.c_tree.specs.Plain.{PlainStmt, loop, choice, assign, table, begin, check, verdict, PlainStmts, no_stmts, more_stmts, PlainUnit}
+use Rattle.c_tree.specs.OneLoop.{IsOneLoop}
+use Rattle.acceptance.specs.Printed.{IsAcceptedPrinted}
+
+-- no statement makes a table
+abbrev mutual
+  pub makes_no_table : PlainStmt → Bool
+  makes_no_table (loop x lo rel hi body) = all_make_no_table body
+  makes_no_table (choice ts first other) = all_make_no_table first && all_make_no_table other
+  makes_no_table (assign target op e) = true
+  makes_no_table (table x len) = false
+  makes_no_table begin = true
+  makes_no_table (check x extent a) = true
+  makes_no_table verdict = true
+
+  pub all_make_no_table : PlainStmts → Bool
+  all_make_no_table no_stmts = true
+  all_make_no_table (more_stmts s ss) = makes_no_table s && all_make_no_table ss
+
+-- a source of the one-loop form, or an accepted printed unit without tables
+abbrev pub IsRunnable : PlainUnit → Type 0
+IsRunnable u = IsOneLoop u ⊎ (IsAcceptedPrinted u × (all_make_no_table u.body ≡ true))
