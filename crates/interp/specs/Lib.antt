@@ -1,0 +1,11 @@
+pub mod Names
+pub mod Values
+pub mod Places
+pub mod Machine
+pub mod Signed
+pub mod Meaning
+pub mod Steps
+pub mod Shown
+pub mod Heads
+pub mod Started
+pub mod Finished
