@@ -1,0 +1,10 @@
+pub mod Answers
+pub mod Checks
+pub mod Conditions
+pub mod Laws
+pub mod Meaning
+pub mod Outcome
+pub mod Reading
+pub mod Samples
+pub mod Seen
+pub mod Texts

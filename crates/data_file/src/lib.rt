@@ -1,0 +1,95 @@
+//! Data files and the outputs of runs. `specs/Texts` gives the text of values; what a text means is
+//! told by `specs/Meaning`, apart from the reading.
+#![tactic(auto)]
+
+mod cells;
+mod check;
+mod ending;
+mod front;
+mod lines;
+mod names;
+mod number;
+mod put;
+mod refusal;
+mod row;
+mod slots;
+mod write;
+
+ghost use Rattle.std.specs.Prelude.{◌≡◌, IfOk};
+ghost use Rattle.data_file.specs.Texts.{data_text, output_text};
+ghost use Rattle.data_file.specs.Answers.{Answers};
+ghost use Rattle.data_file.specs.Samples.{AreSamples};
+ghost use Rattle.data_file.specs.Laws.{HasOneAnswer, IsReadBack};
+ghost use Rattle.data_file.specs.Conditions.{HasRows, IsEndOf, IsFrame};
+
+use c_tree::{Ended, Frame, Inputs, OutOfMemory};
+pub use refusal::DataRefusal;
+use std::alloc::Global;
+
+/// The inputs that the text of a data file means.
+pub fn read_data(alloc: Global, f: &Frame, text: &[u8]) -> Result<Inputs, DataRefusal>
+    requires { IsFrame f.now }
+    ensures { Answers f.now text.now result }
+{
+    let inputs = lines::read_inputs(alloc, f, text)?;
+    if let Some(parameter) = check::first_outside(f, inputs.ints.as_slice()) {
+        return Err(DataRefusal::OutOfRange {
+            parameter: parameter as u64,
+        });
+    }
+    if let Some(array) = check::first_too_large(f, inputs.ints.as_slice()) {
+        return Err(DataRefusal::TooLarge {
+            array: array as u64,
+        });
+    }
+    if let Some(mismatch) = check::first_mismatch(f, &inputs) {
+        return Err(DataRefusal::WrongCells {
+            array: mismatch.array as u64,
+            wanted: mismatch.wanted,
+            given: mismatch.given,
+        });
+    }
+    Ok(inputs)
+}
+
+/// The text of a data file: the parameters, then the arrays, in declared order.
+pub fn write_data(alloc: Global, f: &Frame, i: &Inputs) -> Result<Vec<u8>, OutOfMemory>
+    requires { HasRows f.now i.now }
+    ensures { IfOk result (λ text. text.items ≡ data_text f.now i.now) }
+{
+    let mut out = Vec::new(alloc);
+    write::put_parameters(&mut out, f.ints.as_slice(), i.ints.as_slice())?;
+    write::put_arrays(&mut out, f.arrays.as_slice(), i.cells.as_slice())?;
+    Ok(out)
+}
+
+/// The output of a run: the arrays that aren't `const`, in declared order, and then the verdict, with
+/// names in declared order.
+pub fn output(alloc: Global, f: &Frame, e: &Ended) -> Result<Vec<u8>, OutOfMemory>
+    requires { IsEndOf f.now e.now }
+    ensures { IfOk result (λ text. text.items ≡ output_text f.now e.now) }
+{
+    let mut out = Vec::new(alloc);
+    ending::put_kept(&mut out, f.arrays.as_slice(), e.arrays.as_slice())?;
+    ending::put_verdict(&mut out, f.arrays.as_slice(), &e.verdict)?;
+    put::put(&mut out, b"\n")?;
+    Ok(out)
+}
+
+/// A text means one thing at most, and no two causes of refusals hold at once.
+pub fn one_answer()
+    ensures { HasOneAnswer }
+{}
+
+/// What is written of inputs that fit is read back.
+pub fn written_is_read()
+    ensures { IsReadBack }
+{}
+
+/// There are frames and inputs that meet all that is asked of them.
+pub fn samples_meet_conditions()
+    ensures { AreSamples }
+{}
+
+#[cfg(test)]
+mod tests;
