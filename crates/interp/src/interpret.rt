@@ -1,12 +1,14 @@
 //! The run of a unit.
 
-ghost use Rattle.std.specs.Prelude.{◌≡◌, ◌<◌, ◌^◌, IfOk, None, length};
-ghost use Rattle.c_tree.specs.Inputs.{Fit};
+ghost use Rattle.std.specs.Prelude.{◌≡◌, ◌<◌, ◌^◌, IfOk, OnOk, None, length};
+ghost use Rattle.c_tree.specs.Inputs.{Fit, IsSound};
+ghost use Rattle.c_tree.specs.OneLoop.{IsOneLoop};
 ghost use Rattle.c_tree.specs.Run as runs;
 ghost use Rattle.c_tree.specs.Trees.{unit as unit_in};
 ghost use Rattle.interp.specs.Finished.{inputs_in, IsEnded, IsVerdict, IsFinished};
 ghost use Rattle.acceptance.specs.Runnable.{IsRunnable};
 ghost use Rattle.interp.specs.Names.{names_in};
+ghost use Rattle.run_laws.specs.Laws.{RunsThrough};
 ghost use Rattle.interp.specs.Started.{names_for, machine_for};
 
 use crate::finish::{arrays_of, totals_of, unequal};
@@ -18,6 +20,7 @@ use crate::start::{add_all_targets, all_cells, declared_names, first_wides, firs
 use crate::stop::Stop;
 use crate::values::Values;
 use c_tree::{Copied, Ended, Flip, Inputs, OutOfMemory, Totals, Unit, Verdict};
+use run_laws::one_loop_follows;
 use sqlite_items::Items;
 use std::alloc::Global;
 
@@ -126,8 +129,12 @@ pub fn run(
     requires few { length unit.now.params < 2 ^ 31 }
     requires fits { Fit (unit_in unit.now) (inputs_in i.now) }
     requires no_flip { flip ≡ None }
-    ensures { IfOk result (λ ended. IsEnded (runs.run (unit_in unit.now) (inputs_in i.now) None) ended) }
+    ensures ended { IfOk result (λ ended. IsEnded (runs.run (unit_in unit.now) (inputs_in i.now) None) ended) }
+    // A source that stays within its arrays ends plain, with the accesses and the output of its instances, each read giving the word last stored.
+    ensures follows { OnOk result (IsOneLoop (unit_in unit.now) → IsSound (unit_in unit.now) (inputs_in i.now)
+        → RunsThrough (unit_in unit.now) (inputs_in i.now) (runs.run (unit_in unit.now) (inputs_in i.now) None)) }
 {
+    one_loop_follows();
     let names = names_of(alloc, unit)?;
     let ints = int_names(alloc, unit.params.as_slice())?;
     let around = Around::Parameters(ints.as_slice());
