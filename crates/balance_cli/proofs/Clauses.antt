@@ -2,10 +2,11 @@
 use Rattle.std.proofs.Common.{◌≡◌, ◌⊎◌, [], Option, Some, None, Result, Ok, Err, inl, inr, sym, ◌∙◌, ap, subst, refl}
 use Rattle.std.proofs.lemmas.Option.{none-some}
 use Rattle.edge.specs.Causes.{Rose}
+use Rattle.data_file.specs.Laws.{HasOneAnswer}
 use Rattle.balance_cli.specs.Calls.{IsWritten, IsTold, IsEnding, IsAnswer, IsCall, Tries}
 use Rattle.balance_cli.specs.Lines.{line_of}
 use Rattle.balance_cli.specs.Met.{Met}
-use Rattle.balance_cli.specs.Orders.{Order, print, files_of}
+use Rattle.balance_cli.specs.Orders.{Order, print, run_file, attempt, files_of}
 use Rattle.balance_cli.specs.Plans.{Files, plan_of, Follows, AsksOnly, Ends}
 use Rattle.balance_cli.specs.Statuses.{status_of, finish_status, ideal_status}
 use Rattle.balance_cli.specs.Table.{Cause, AsksInOrder, IsCalm, EndsAsDefined}
@@ -13,14 +14,30 @@ use Rattle.balance_cli.specs.declared.stages.Finish.{Finish}
 use Rattle.balance_cli.specs.declared.stages.Finish.TheVariants as finish
 use Rattle.balance_cli.specs.declared.stages.Output.{Output}
 use Rattle.balance_cli.specs.declared.stages.Stop.{Stop}
-use Rattle.balance_cli.specs.declared.stages.Stop.TheVariants.{ReadFault, TooLong, SourceRefused, NoMemory}
+use Rattle.balance_cli.specs.declared.stages.Stop.TheVariants.{ReadFault, TooLong, SourceRefused, DataRefused, NoMemory}
 use Rattle.balance_cli.specs.declared.status.Status.{Status}
 use Rattle.balance_cli.specs.declared.status.Status.TheVariants as status
-use Rattle.balance_cli.proofs.Plans.{asked_nothing}
-use Rattle.balance_cli.proofs.Endings.{defined_end, fault_end, asked_end, IsCalmFor, IsJudgedOnce, determined}
+use Rattle.balance_cli.proofs.Plans.{asked_nothing, form_of_accepted}
+use Rattle.balance_cli.proofs.Endings.{defined_end, fault_end, asked_end, IsCalmFor, IsJudgedOnce, HasFrames, determined}
 
 done_cause : (order : Order) (m : Met) (ends : Status) (output : Output) (f : Finish) → output.finish ≡ f → Follows (plan_of order) m.shelf_before m.shelf (Ok output) → IsWritten output m.out_before m.out m.err_before m.err ends → Cause (Some order) m ends
 done_cause order m ends output finish.Done is follows written =
+    subst (Cause (Some order) m) (sym (written.status ∙ ap finish_status is)) (record {
+      output = output;
+      defined = defined_end (plan_of order) _ _ follows.names (Ok output) tt follows.ends;
+      finish = is;
+      whole = written.whole;
+      no_line = written.no_line;
+    })
+done_cause order m ends output finish.Reported is follows written =
+    subst (Cause (Some order) m) (sym (written.status ∙ ap finish_status is)) (record {
+      output = output;
+      defined = defined_end (plan_of order) _ _ follows.names (Ok output) tt follows.ends;
+      finish = is;
+      whole = written.whole;
+      no_line = written.no_line;
+    })
+done_cause order m ends output finish.Outside is follows written =
     subst (Cause (Some order) m) (sym (written.status ∙ ap finish_status is)) (record {
       output = output;
       defined = defined_end (plan_of order) _ _ follows.names (Ok output) tt follows.ends;
@@ -47,6 +64,15 @@ stop_cause order m (SourceRefused refusal) ends is follows unwritten line =
       refusal,
       record {
         defined = defined_end (plan_of order) _ _ follows.names (Err (SourceRefused refusal)) tt follows.ends;
+        unwritten = unwritten;
+        line = line;
+      },
+    )
+stop_cause order m (DataRefused why) ends is follows unwritten line =
+    subst (Cause (Some order) m) (sym is) (
+      why,
+      record {
+        defined = defined_end (plan_of order) _ _ follows.names (Err (DataRefused why)) tt follows.ends;
         unwritten = unwritten;
         line = line;
       },
@@ -92,6 +118,13 @@ misused (Some order) m ends called none = absurd (none-some order (sym none))
 
 plan_asks : (order : Order) → AsksOnly (plan_of order) (files_of order)
 plan_asks (print source) = (refl, λ text unit. tt)
+plan_asks (run_file file input) = (refl, λ text unit. (refl, λ bytes inputs. tt))
+plan_asks (attempt source input) = (refl, λ text unit. (refl, λ bytes inputs. tt))
+
+plan_has_frames : (order : Order) → HasFrames (plan_of order)
+plan_has_frames (print source) = λ text unit is. tt
+plan_has_frames (run_file file input) = λ text unit is bytes. (form_of_accepted text unit is, λ inputs. tt)
+plan_has_frames (attempt source input) = λ text unit is bytes. (form_of_accepted text unit is, λ inputs. tt)
 
 no_order_asks : (m : Met) (ends : Status) → IsAnswer None m ends → m.shelf ≡ m.shelf_before
 no_order_asks m ends (inl misused) = misused.1.unread
@@ -110,7 +143,18 @@ apart : (f : Finish) (cause : Stop) → finish_status f ≡ status_of cause → 
 apart finish.Done (ReadFault word) same = cc
 apart finish.Done (TooLong word) same = cc
 apart finish.Done (SourceRefused refusal) same = cc
+apart finish.Done (DataRefused why) same = cc
 apart finish.Done NoMemory same = cc
+apart finish.Reported (ReadFault word) same = cc
+apart finish.Reported (TooLong word) same = cc
+apart finish.Reported (SourceRefused refusal) same = cc
+apart finish.Reported (DataRefused why) same = cc
+apart finish.Reported NoMemory same = cc
+apart finish.Outside (ReadFault word) same = cc
+apart finish.Outside (TooLong word) same = cc
+apart finish.Outside (SourceRefused refusal) same = cc
+apart finish.Outside (DataRefused why) same = cc
+apart finish.Outside NoMemory same = cc
 
 -- the outcome has the status of the ideal one, or memory was wanting
 abbrev Agree : Result Output Stop → Result Output Stop → Type 0
@@ -141,12 +185,13 @@ calm_shelf (Ok output) m calm = calm.0
 calm_shelf (Err (ReadFault word)) m calm = tt
 calm_shelf (Err (TooLong word)) m calm = calm
 calm_shelf (Err (SourceRefused refusal)) m calm = calm
+calm_shelf (Err (DataRefused why)) m calm = calm
 calm_shelf (Err NoMemory) m calm = calm
 
-pub complete : IsJudgedOnce → (order : Option Order) (m : Met) (ends : Status) → IsCall order m ends → EndsAsDefined order m ends
-complete once None m ends called = tt
-complete once (Some order) m ends called = λ files ideal told defined calm.
+pub complete : IsJudgedOnce → HasOneAnswer → (order : Option Order) (m : Met) (ends : Status) → IsCall order m ends → EndsAsDefined order m ends
+complete once read_once None m ends called = tt
+complete once read_once (Some order) m ends called = λ files ideal told defined calm.
     let follows = called.answer.follows in
     let P : Files → Type 0 = λ fs. Ends (plan_of order) fs (Rose m.shelf_before.faults m.shelf.faults) follows.names called.answer.outcome in
     ended order m ends called.answer.outcome ideal calm called.answer.ending
-    (determined once (plan_of order) files _ follows.names called.answer.outcome ideal (calm_shelf ideal m calm) (subst P told follows.ends) defined)
+    (determined once read_once (plan_of order) files _ follows.names called.answer.outcome ideal (plan_has_frames order) (calm_shelf ideal m calm) (subst P told follows.ends) defined)

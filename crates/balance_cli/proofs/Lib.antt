@@ -1,6 +1,10 @@
 pub mod Clauses
 pub mod Endings
+pub mod Framed
+pub mod Named
 pub mod Parts
 pub mod Pieces
 pub mod Plans
 pub mod Powers
+pub mod Shown
+pub mod Unchecked

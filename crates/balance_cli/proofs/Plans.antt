@@ -3,20 +3,24 @@ use Rattle.std.proofs.Common.{◌≡◌, ◌⊎◌, ℕ, ◌≤◌, List, [], �
 use Rattle.std.proofs.lemmas.List.{append-nil}
 use Rattle.edge.specs.Causes.{Rose}
 use Rattle.edge.specs.Shelf.{Told}
+use Rattle.c_tree.specs.Inputs.{PlainInputs}
 use Rattle.c_tree.specs.Plain.{PlainUnit}
 use Rattle.c_tree.specs.OneLoop.{IsOneLoop}
 use Rattle.c_tree.specs.Trees.{unit}
 use Rattle.c_tree.specs.declared.refusal.Refusal.{Refusal}
 use Rattle.c_tree.specs.declared.refusal.Refusal.TheVariants as refusal
 use Rattle.c_tree.specs.declared.unit.Unit.{Unit as TheUnit}
-use Rattle.balance_cli.specs.Plans.{Plan, load, judge, print_unit, Files, Ends, Follows}
+use Rattle.c_tree.specs.declared.frame.Inputs.{Inputs}
+use Rattle.interp.specs.Finished.{inputs_in}
+use Rattle.balance_cli.specs.Runs.{IsRun, IsTried}
+use Rattle.balance_cli.specs.Plans.{Plan, load, judge, print_unit, read, run_unit, try_unit, Files, Ends, Follows}
 use Rattle.balance_cli.specs.Printed.{IsPrinted}
 use Rattle.balance_cli.specs.Sources.{Accepts}
-use Rattle.balance_cli.specs.Stages.{IsLoad, IsJudged, stop_of}
+use Rattle.balance_cli.specs.Stages.{IsLoad, IsJudged, IsRead, stop_of}
 use Rattle.balance_cli.specs.declared.stages.FileWord.{FileWord}
 use Rattle.balance_cli.specs.declared.stages.Output.{Output}
 use Rattle.balance_cli.specs.declared.stages.Stop.{Stop}
-use Rattle.balance_cli.specs.declared.stages.Stop.TheVariants.{ReadFault, TooLong, SourceRefused, NoMemory}
+use Rattle.balance_cli.specs.declared.stages.Stop.TheVariants.{ReadFault, TooLong, SourceRefused, DataRefused, NoMemory}
 
 -- an accepted source is of the one-loop form
 pub form_of_accepted : (text : List ℕ) (u : PlainUnit) → Accepts text u → IsOneLoop u
@@ -37,6 +41,11 @@ ends_over (judge text next) files names outcome f (inl h) = inl h
 ends_over (judge text next) files names outcome f (inr (inl h)) = inr (inl h)
 ends_over (judge text next) files names outcome f (inr (inr h)) = inr (inr (h.0, h.1, ends_over (next h.0) files names outcome f h.2))
 ends_over (print_unit source) files names outcome f h = h
+ends_over (read head text next) files names outcome f (inl h) = inl h
+ends_over (read head text next) files names outcome f (inr (inl h)) = inr (inl h)
+ends_over (read head text next) files names outcome f (inr (inr h)) = inr (inr (h.0, h.1, ends_over (next h.0) files names outcome f h.2))
+ends_over (run_unit source inputs) files names outcome f h = h
+ends_over (try_unit source inputs) files names outcome f h = h
 
 asked_twice : (asked : Option (List (List ℕ))) (names more : List (List ℕ)) → option_map (λ a. a ++ more) (option_map (λ a. a ++ names) asked) ≡ option_map (λ a. a ++ (names ++ more)) asked
 asked_twice None names more = refl
@@ -67,6 +76,7 @@ unfolding Ends
 follows_stop word name limit next before now (ReadFault w) one = record { files = one.0.files; later = one.0.later; names = name ∷ []; asked = one.0.asked; ends = inr (inl (refl, ap (λ x. Err (ReadFault x)) one.1, one.2)) }
 follows_stop word name limit next before now (TooLong w) one = record { files = one.0.files; later = one.0.later; names = name ∷ []; asked = one.0.asked; ends = inr (inr (inl (refl, ap (λ x. Err (TooLong x)) one.1, one.2))) }
 follows_stop word name limit next before now (SourceRefused refusal) one = absurd one
+follows_stop word name limit next before now (DataRefused why) one = absurd one
 follows_stop word name limit next before now NoMemory one = record { files = one.files; later = one.later; names = []; asked = one.asked; ends = inl (refl, refl) }
 
 pub asked_nothing : (asked : Option (List (List ℕ))) → asked ≡ option_map (λ a. a ++ []) asked
@@ -78,7 +88,7 @@ follows_still : (plan : Plan) (now : Told) (outcome : Result Output Stop) → ((
 follows_still plan now outcome ends = record { files = refl; later = omega arith; names = []; asked = asked_nothing now.asked; ends = ends (Rose now.faults now.faults) }
 
 -- a text that is read through a reference
-judged_at : (text seen : List ℕ) (result : Result TheUnit Stop) → seen ≡ text → IsJudged seen result → IsJudged text result
+pub judged_at : (text seen : List ℕ) (result : Result TheUnit Stop) → seen ≡ text → IsJudged seen result → IsJudged text result
 judged_at text seen result same one = subst (λ (t : List ℕ). IsJudged t result) same one
 
 -- what a refusal of the parser says
@@ -103,6 +113,7 @@ ends_refused text next files (SourceRefused refusal) one rose = inr (inl (refusa
 ends_refused text next files NoMemory one rose = inl (refl, refl)
 ends_refused text next files (ReadFault w) one rose = absurd one
 ends_refused text next files (TooLong w) one rose = absurd one
+ends_refused text next files (DataRefused why) one rose = absurd one
 
 -- a source text that is refused
 pub follows_refused : (text seen : List ℕ) (next : PlainUnit → Plan) (now : Told) (cause : Stop) → seen ≡ text → IsJudged seen (Err cause) → Follows (judge text next) now now (Err cause)
@@ -117,3 +128,49 @@ ends_printed source files (Err cause) is rose = (refl, inr (ap Err is))
 -- the last stage of a plan
 pub follows_printed : (source : PlainUnit) (now : Told) (outcome : Result Output Stop) → MatchResult outcome (IsPrinted source) (λ cause. cause ≡ NoMemory) → Follows (print_unit source) now now outcome
 follows_printed source now outcome is = follows_still (print_unit source) now outcome (ends_printed source now.files outcome is)
+
+-- a data text that is read through a reference
+pub read_at : (head : PlainUnit) (text seen : List ℕ) (result : Result Inputs Stop) → seen ≡ text → IsRead head seen result → IsRead head text result
+read_at head text seen result same one = subst (λ (t : List ℕ). IsRead head t result) same one
+
+-- a data text that means inputs, and the rest of the plan
+pub follows_read : (head : PlainUnit) (text seen : List ℕ) (next : PlainInputs → Plan) (before now : Told) (i : Inputs) (outcome : Result Output Stop) → seen ≡ text → IsRead head seen (Ok i) → Follows (next (inputs_in i)) before now outcome → Follows (read head text next) before now outcome
+unfolding Ends
+follows_read head text seen next before now i outcome same one rest = record {
+  files = rest.files;
+  later = rest.later;
+  names = rest.names;
+  asked = rest.asked;
+  ends = inr (inr (inputs_in i, read_at head text seen (Ok i) same one, rest.ends));
+}
+
+ends_unread : (head : PlainUnit) (text : List ℕ) (next : PlainInputs → Plan) (files : Files) (cause : Stop) → IsRead head text (Err cause) → (rose : Type 0) → Ends (read head text next) files rose [] (Err cause)
+unfolding Ends
+ends_unread head text next files (DataRefused words) one rose = inr (inl (one.0, one.1, refl, ap (λ w. Err (DataRefused w)) one.2))
+ends_unread head text next files NoMemory one rose = inl (refl, refl)
+ends_unread head text next files (SourceRefused why) one rose = absurd one
+ends_unread head text next files (ReadFault w) one rose = absurd one
+ends_unread head text next files (TooLong w) one rose = absurd one
+
+-- a data text that is refused
+pub follows_unread : (head : PlainUnit) (text seen : List ℕ) (next : PlainInputs → Plan) (now : Told) (cause : Stop) → seen ≡ text → IsRead head seen (Err cause) → Follows (read head text next) now now (Err cause)
+follows_unread head text seen next now cause same one =
+    follows_still (read head text next) now (Err cause) (ends_unread head text next now.files cause (read_at head text seen (Err cause) same one))
+
+ends_run : (source : PlainUnit) (inputs : PlainInputs) (files : Files) (outcome : Result Output Stop) → MatchResult outcome (IsRun source inputs) (λ cause. cause ≡ NoMemory) → (rose : Type 0) → Ends (run_unit source inputs) files rose [] outcome
+unfolding Ends
+ends_run source inputs files (Ok output) is rose = (refl, inl (output, is, refl))
+ends_run source inputs files (Err cause) is rose = (refl, inr (ap Err is))
+
+-- the last stage of a plan that runs a unit
+pub follows_run : (source : PlainUnit) (inputs : PlainInputs) (now : Told) (outcome : Result Output Stop) → MatchResult outcome (IsRun source inputs) (λ cause. cause ≡ NoMemory) → Follows (run_unit source inputs) now now outcome
+follows_run source inputs now outcome is = follows_still (run_unit source inputs) now outcome (ends_run source inputs now.files outcome is)
+
+ends_tried : (source : PlainUnit) (inputs : PlainInputs) (files : Files) (outcome : Result Output Stop) → MatchResult outcome (IsTried source inputs) (λ cause. cause ≡ NoMemory) → (rose : Type 0) → Ends (try_unit source inputs) files rose [] outcome
+unfolding Ends
+ends_tried source inputs files (Ok output) is rose = (refl, inl (output, is, refl))
+ends_tried source inputs files (Err cause) is rose = (refl, inr (ap Err is))
+
+-- and that of its instrumented unit
+pub follows_tried : (source : PlainUnit) (inputs : PlainInputs) (now : Told) (outcome : Result Output Stop) → MatchResult outcome (IsTried source inputs) (λ cause. cause ≡ NoMemory) → Follows (try_unit source inputs) now now outcome
+follows_tried source inputs now outcome is = follows_still (try_unit source inputs) now outcome (ends_tried source inputs now.files outcome is)

@@ -1,5 +1,7 @@
 pub mod Calls
 pub mod Commands
+pub mod Frames
+pub mod Inputs
 pub mod KindOf
 pub mod Lines
 pub mod Met
@@ -9,6 +11,7 @@ pub mod Plans
 pub mod Powers
 pub mod Printed
 pub mod Refusals
+pub mod Runs
 pub mod Scopes
 pub mod Sources
 pub mod Stages

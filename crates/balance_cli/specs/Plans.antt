@@ -3,16 +3,21 @@ use Rattle.std.specs.Prelude.{◌≡◌, ◌⊎◌, ℕ, ◌≤◌, ◌<◌, Lis
 use Rattle.edge.specs.Causes.{Rose}
 use Rattle.edge.specs.Files.{file_of}
 use Rattle.edge.specs.Shelf.{Told}
+use Rattle.c_tree.specs.Inputs.{PlainInputs}
 use Rattle.c_tree.specs.Plain.{PlainUnit}
 use Rattle.c_tree.specs.declared.refusal.Refusal.{Refusal}
-use Rattle.balance_cli.specs.Orders.{Order, print}
+use Rattle.data_file.specs.declared.refusal.DataRefusal.{DataRefusal}
+use Rattle.balance_cli.specs.Frames.{frame_in}
+use Rattle.balance_cli.specs.Inputs.{IsMeant, IsDataRefused, data_refusal_text}
+use Rattle.balance_cli.specs.Orders.{Order, print, run_file, attempt}
 use Rattle.balance_cli.specs.Printed.{IsPrinted}
+use Rattle.balance_cli.specs.Runs.{IsRun, IsTried}
 use Rattle.balance_cli.specs.Sources.{Accepts, Refuses}
 use Rattle.balance_cli.specs.declared.stages.FileWord.{FileWord}
-use Rattle.balance_cli.specs.declared.stages.FileWord.TheVariants.{Source}
+use Rattle.balance_cli.specs.declared.stages.FileWord.TheVariants.{Source, File, Data}
 use Rattle.balance_cli.specs.declared.stages.Output.{Output}
 use Rattle.balance_cli.specs.declared.stages.Stop.{Stop}
-use Rattle.balance_cli.specs.declared.stages.Stop.TheVariants.{ReadFault, TooLong, SourceRefused, NoMemory}
+use Rattle.balance_cli.specs.declared.stages.Stop.TheVariants.{ReadFault, TooLong, SourceRefused, DataRefused, NoMemory}
 
 pub data Plan : Type 0 where
   -- load a file, and go on with its bytes
@@ -21,9 +26,19 @@ pub data Plan : Type 0 where
   judge : (text : List ℕ) (next : PlainUnit → Plan) → Plan
   -- write a text that is printed for this source, and end so
   print_unit : (source : PlainUnit) → Plan
+  -- read a data text by the head of a unit, and go on with its inputs
+  read : (head : PlainUnit) (text : List ℕ) (next : PlainInputs → Plan) → Plan
+  -- run a unit, and end so
+  run_unit : (source : PlainUnit) (inputs : PlainInputs) → Plan
+  -- run the instrumented unit of a source, and end so
+  try_unit : (source : PlainUnit) (inputs : PlainInputs) → Plan
 
 abbrev pub plan_of : Order → Plan
 plan_of (print source) = load Source source 262144 (λ text. judge text (λ unit. print_unit unit))
+plan_of (run_file file input) =
+    load File file 16777216 (λ text. judge text (λ unit. load Data input 67108864 (λ bytes. read unit bytes (λ inputs. run_unit unit inputs))))
+plan_of (attempt source input) =
+    load Source source 262144 (λ text. judge text (λ unit. load Data input 67108864 (λ bytes. read unit bytes (λ inputs. try_unit unit inputs))))
 
 -- ---- files, where they are told
 
@@ -60,6 +75,14 @@ Ends (judge text next) files rose names outcome =
     ⊎ ((unit : PlainUnit) × Accepts text unit × Ends (next unit) files rose names outcome))
 Ends (print_unit source) files rose names outcome =
     (names ≡ []) × (((output : Output) × IsPrinted source output × (outcome ≡ Ok output)) ⊎ (outcome ≡ Err NoMemory))
+Ends (read head text next) files rose names outcome =
+    ((names ≡ []) × (outcome ≡ Err NoMemory))
+    ⊎ (((refusal : DataRefusal) × IsDataRefused head text refusal × (names ≡ []) × (outcome ≡ Err (DataRefused (data_refusal_text (frame_in head) refusal))))
+    ⊎ ((inputs : PlainInputs) × IsMeant head text inputs × Ends (next inputs) files rose names outcome))
+Ends (run_unit source inputs) files rose names outcome =
+    (names ≡ []) × (((output : Output) × IsRun source inputs output × (outcome ≡ Ok output)) ⊎ (outcome ≡ Err NoMemory))
+Ends (try_unit source inputs) files rose names outcome =
+    (names ≡ []) × (((output : Output) × IsTried source inputs output × (outcome ≡ Ok output)) ⊎ (outcome ≡ Err NoMemory))
 
 -- a shelf before and after a plan, and the plan's outcome
 pub record Follows (plan : Plan) (before now : Told) (outcome : Result Output Stop) : Type 0 where
@@ -80,6 +103,11 @@ Defined (judge text next) files outcome =
     ((refusal : Refusal) × Refuses text refusal × (outcome ≡ Err (SourceRefused refusal)))
     ⊎ ((unit : PlainUnit) × Accepts text unit × Defined (next unit) files outcome)
 Defined (print_unit source) files outcome = (output : Output) × IsPrinted source output × (outcome ≡ Ok output)
+Defined (read head text next) files outcome =
+    ((refusal : DataRefusal) × IsDataRefused head text refusal × (outcome ≡ Err (DataRefused (data_refusal_text (frame_in head) refusal))))
+    ⊎ ((inputs : PlainInputs) × IsMeant head text inputs × Defined (next inputs) files outcome)
+Defined (run_unit source inputs) files outcome = (output : Output) × IsRun source inputs output × (outcome ≡ Ok output)
+Defined (try_unit source inputs) files outcome = (output : Output) × IsTried source inputs output × (outcome ≡ Ok output)
 
 -- the stages before this load pass
 unfoldable pub Reaches : Plan → Files → FileWord → Type 0
@@ -87,6 +115,9 @@ Reaches (load word name limit next) files at =
     (at ≡ word) ⊎ ((bytes : List ℕ) × (length bytes ≤ limit) × IsFile files name bytes × Reaches (next bytes) files at)
 Reaches (judge text next) files at = (unit : PlainUnit) × Accepts text unit × Reaches (next unit) files at
 Reaches (print_unit source) files at = ⊥
+Reaches (read head text next) files at = (inputs : PlainInputs) × IsMeant head text inputs × Reaches (next inputs) files at
+Reaches (run_unit source inputs) files at = ⊥
+Reaches (try_unit source inputs) files at = ⊥
 
 -- the names that a plan asks for, whatever the files hold, are these from the first on
 abbrev pub AsksOnly : Plan → List (List ℕ) → Type 0
@@ -94,3 +125,6 @@ AsksOnly (load word name limit next) [] = ⊥
 AsksOnly (load word name limit next) (first ∷ names) = (name ≡ first) × ((bytes : List ℕ) → AsksOnly (next bytes) names)
 AsksOnly (judge text next) names = (unit : PlainUnit) → AsksOnly (next unit) names
 AsksOnly (print_unit source) names = Unit {0}
+AsksOnly (read head text next) names = (inputs : PlainInputs) → AsksOnly (next inputs) names
+AsksOnly (run_unit source inputs) names = Unit {0}
+AsksOnly (try_unit source inputs) names = Unit {0}

@@ -1,16 +1,24 @@
 -- What the stages of the code answer.
-use Rattle.std.specs.Prelude.{◌≡◌, ℕ, ◌≤◌, List, [], ◌∷◌, ◌++◌, length, option_map, Result, Ok, Err}
+use Rattle.std.specs.Prelude.{◌≡◌, ◌⊎◌, ℕ, ◌≤◌, List, [], ◌∷◌, ◌++◌, length, option_map, Result, Ok, Err}
 use Rattle.edge.specs.Causes.{Rose}
 use Rattle.edge.specs.Shelf.{Told}
+use Rattle.c_tree.specs.Plain.{PlainUnit}
 use Rattle.c_tree.specs.Trees.{unit}
+use Rattle.c_tree.specs.declared.frame.Frame.{Frame}
+use Rattle.c_tree.specs.declared.frame.Inputs.{Inputs}
 use Rattle.c_tree.specs.declared.refusal.Refusal.{Refusal}
 use Rattle.c_tree.specs.declared.refusal.Refusal.TheVariants as refusal
 use Rattle.c_tree.specs.declared.unit.Unit.{Unit as TheUnit}
+use Rattle.data_file.specs.declared.refusal.DataRefusal.{DataRefusal}
+use Rattle.data_file.specs.declared.refusal.DataRefusal.TheVariants as data_refusal
+use Rattle.interp.specs.Finished.{inputs_in}
+use Rattle.balance_cli.specs.Frames.{frame_in}
+use Rattle.balance_cli.specs.Inputs.{IsMeant, IsDataRefused, data_refusal_text}
 use Rattle.balance_cli.specs.Plans.{IsFile, IsTooLong}
 use Rattle.balance_cli.specs.Sources.{Accepts, Refuses}
 use Rattle.balance_cli.specs.declared.stages.FileWord.{FileWord}
 use Rattle.balance_cli.specs.declared.stages.Stop.{Stop}
-use Rattle.balance_cli.specs.declared.stages.Stop.TheVariants.{ReadFault, TooLong, SourceRefused, NoMemory}
+use Rattle.balance_cli.specs.declared.stages.Stop.TheVariants.{ReadFault, TooLong, SourceRefused, DataRefused, NoMemory}
 
 -- these names were asked for, and the shelf's files are as they were
 pub record Asks (before now : Told) (names : List (List ℕ)) : Type 0 where
@@ -24,6 +32,7 @@ IsLoad word name limit before now (Ok bytes) = Asks before now (name ∷ []) × 
 IsLoad word name limit before now (Err (ReadFault w)) = Asks before now (name ∷ []) × (w ≡ word) × Rose before.faults now.faults
 IsLoad word name limit before now (Err (TooLong w)) = Asks before now (name ∷ []) × (w ≡ word) × IsTooLong before.files name limit
 IsLoad word name limit before now (Err (SourceRefused why)) = ⊥
+IsLoad word name limit before now (Err (DataRefused why)) = ⊥
 IsLoad word name limit before now (Err NoMemory) = Asks before now []
 
 -- the cause that a refusal is
@@ -37,4 +46,18 @@ IsJudged text (Ok u) = Accepts text (unit u)
 IsJudged text (Err (SourceRefused why)) = Refuses text why
 IsJudged text (Err (ReadFault w)) = ⊥
 IsJudged text (Err (TooLong w)) = ⊥
+IsJudged text (Err (DataRefused why)) = ⊥
 IsJudged text (Err NoMemory) = Unit {0}
+
+-- the cause that a refusal of a data text is, or that memory is wanting
+abbrev pub IsDataStop : Frame → DataRefusal → Stop → Type 0
+IsDataStop f why cause = (cause ≡ NoMemory) ⊎ ((why ≡ data_refusal.OutOfMemory → ⊥) × (cause ≡ DataRefused (data_refusal_text f why)))
+
+-- one data text
+abbrev pub IsRead : PlainUnit → List ℕ → Result Inputs Stop → Type 0
+IsRead head text (Ok i) = IsMeant head text (inputs_in i)
+IsRead head text (Err (DataRefused words)) = (why : DataRefusal) × IsDataRefused head text why × (words ≡ data_refusal_text (frame_in head) why)
+IsRead head text (Err NoMemory) = Unit {0}
+IsRead head text (Err (SourceRefused why)) = ⊥
+IsRead head text (Err (ReadFault w)) = ⊥
+IsRead head text (Err (TooLong w)) = ⊥

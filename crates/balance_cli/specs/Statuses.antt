@@ -26,11 +26,14 @@ abbrev pub status_of : Stop → Status
 status_of (stop.ReadFault word) = status.ReadFault
 status_of (stop.TooLong word) = status.TooLong
 status_of (stop.SourceRefused refusal) = status.SourceRefused
+status_of (stop.DataRefused why) = status.DataRefused
 status_of stop.NoMemory = status.NoMemory
 
 -- the status of a call that has written its text
 abbrev pub finish_status : Finish → Status
 finish_status finish.Done = status.Done
+finish_status finish.Reported = status.Reported
+finish_status finish.Outside = status.Outside
 
 -- the status of an outcome whose text is written whole
 abbrev pub ideal_status : Result Output Stop → Status

@@ -18,7 +18,7 @@ use Rattle.balance_cli.specs.declared.stages.Stop.TheVariants as stop
 use Rattle.balance_cli.specs.declared.status.Status.{Status}
 use Rattle.balance_cli.specs.declared.status.Status.TheVariants.{Done, Reported, Usage, ReadFault, WriteFault, SourceRefused, DataRefused, FlipRefused, Outside, NoMemory, TooLong}
 
--- 0: the defined text stands whole on the output, and there is no line
+-- 0, 1, 8: the defined text stands whole on the output, and there is no line
 pub record IsDone (order : Order) (how : Finish) (met : Met) : Type 0 where
   pub output : Output
   pub defined : Defined (plan_of order) (files_before met) (Ok output)
@@ -42,7 +42,7 @@ pub record IsWriteFault (order : Order) (met : Met) : Type 0 where
   pub part : AppendsPart met.out_before.bytes met.out.bytes output.text
   pub line : Tries met.err_before met.err write_line
 
--- 5, 10: a stage refuses
+-- 5, 6, 10: a stage refuses
 pub record IsStopped (order : Order) (cause : Stop) (met : Met) : Type 0 where
   pub defined : Defined (plan_of order) (files_before met) (Err cause)
   pub unwritten : met.out ≡ met.out_before
@@ -59,14 +59,14 @@ Cause None met Usage = OnlyTells usage_line met
 Cause None met NoMemory = OnlyTells memory_line met
 Cause None met _ = ⊥
 Cause (Some order) met Done = IsDone order finish.Done met
-Cause (Some order) met Reported = ⊥
+Cause (Some order) met Reported = IsDone order finish.Reported met
 Cause (Some order) met Usage = ⊥
 Cause (Some order) met ReadFault = IsReadFault order met
 Cause (Some order) met WriteFault = IsWriteFault order met
 Cause (Some order) met SourceRefused = (refusal : Refusal) × IsStopped order (stop.SourceRefused refusal) met
-Cause (Some order) met DataRefused = ⊥
+Cause (Some order) met DataRefused = (why : List ℕ) × IsStopped order (stop.DataRefused why) met
 Cause (Some order) met FlipRefused = ⊥
-Cause (Some order) met Outside = ⊥
+Cause (Some order) met Outside = IsDone order finish.Outside met
 Cause (Some order) met NoMemory = IsOutOfMemory met
 Cause (Some order) met TooLong = (word : FileWord) × IsStopped order (stop.TooLong word) met
 

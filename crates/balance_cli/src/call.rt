@@ -14,17 +14,19 @@ use crate::stages::{Finish, Output, Stop, prepared};
 use crate::status::Status;
 use crate::words::{Command, command_of};
 use c_parser::one_unit;
+use data_file::one_answer;
 use edge::{Shelf, Sink, write_all};
 use std::alloc::Global;
 
 // The status of a cause.
-fn status_of(cause: Stop) -> Status
-    ensures { result ≡ status_at cause }
+fn status_of(cause: &Stop) -> Status
+    ensures { result ≡ status_at cause.now }
 {
     match cause {
         Stop::ReadFault(_) => Status::ReadFault,
         Stop::TooLong(_) => Status::TooLong,
         Stop::SourceRefused(_) => Status::SourceRefused,
+        Stop::DataRefused(_) => Status::DataRefused,
         Stop::NoMemory => Status::NoMemory,
     }
 }
@@ -35,6 +37,8 @@ fn finished(finish: Finish) -> Status
 {
     match finish {
         Finish::Done => Status::Done,
+        Finish::Reported => Status::Reported,
+        Finish::Outside => Status::Outside,
     }
 }
 
@@ -47,12 +51,12 @@ pub fn no_memory<E: Sink>(err: &mut E) -> Status
     Status::NoMemory
 }
 
-fn refused<E: Sink>(alloc: Global, command: Command<'_>, cause: Stop, err: &mut E) -> Status
-    ensures { IsTold (ordered command.entry) cause (E.held err.old) (E.held err.new) result }
+fn refused<E: Sink>(alloc: Global, command: Command<'_>, cause: &Stop, err: &mut E) -> Status
+    ensures { IsTold (ordered command.entry) cause.now (E.held err.old) (E.held err.new) result }
 {
     match line(alloc, command, cause) {
         Ok(line) => {
-            try_line(err, line.as_bytes());
+            try_line(err, line.as_slice());
             status_of(cause)
         }
         Err(_) => no_memory(err),
@@ -88,7 +92,7 @@ fn answered<F: Shelf, O: Sink, E: Sink>(
         }
         Some(command) => match prepared(alloc, command, shelf) {
             Ok(output) => written(&output, out, err),
-            Err(cause) => refused(alloc, command, cause, err),
+            Err(cause) => refused(alloc, command, &cause, err),
         },
     }
 }
@@ -113,6 +117,7 @@ pub fn balance<F: Shelf, O: Sink, E: Sink>(
     ensures complete { EndsAsDefined (order_of (map string_bytes words.now)) (met F.told shelf.old shelf.new O.held out.old out.new E.held err.old err.new) result }
 {
     one_unit();
+    one_answer();
     answered(alloc, words, shelf, out, err)
 }
 

@@ -21,7 +21,7 @@ use head::{array_names, int_names, put_head, put_wides, put_words};
 use scope::Scope;
 use statements::put_stmts;
 use std::alloc::Global;
-use text::put;
+pub use text::{put, put_number};
 
 // Everything behind the brace of the function.
 fn put_body(out: &mut Vec<u8>, scope: &Scope<'_>, unit: &Unit) -> Result<(), OutOfMemory>

@@ -3,14 +3,15 @@
 ghost use Rattle.std.specs.Prelude.{◌≡◌, IfOk, string_bytes};
 ghost use Rattle.balance_cli.specs.Calls.{Tries};
 ghost use Rattle.balance_cli.specs.Commands.{ordered};
-ghost use Rattle.balance_cli.specs.Lines.{line_of, fault_line, too_long_line, refused_line, name_of as name_at, limit_of as limit_at};
+ghost use Rattle.balance_cli.specs.Lines.{line_of, fault_line, too_long_line, refused_line, by_word as by_word_at, name_of as name_at, limit_of as limit_at};
 ghost use Rattle.balance_cli.specs.Refusals.{refusal_text as text_of};
 
+use crate::layout::put;
 use crate::refusals::refusal_text;
-use crate::stages::{FileWord, SOURCE_LIMIT, Stop};
+use crate::stages::{DATA_LIMIT, FILE_LIMIT, FileWord, SOURCE_LIMIT, Stop};
 use crate::words::Command;
-use c_tree::Refusal;
-use edge::{Sink, write_all};
+use c_tree::{OutOfMemory, Refusal};
+use edge::{ByteList, Sink, write_all};
 use std::alloc::{AllocError, Global};
 
 pub const USAGE: &[u8] =
@@ -20,12 +21,24 @@ pub const NO_MEMORY: &[u8] = b"balance: no memory\n";
 
 pub const CANNOT_WRITE: &[u8] = b"balance: cannot write\n";
 
+// The second for data, and else the first.
+fn by_word<'a>(word: FileWord, first: &'a str, second: &'a str) -> &'a str
+    ensures { result.now ≡ by_word_at word first.entry.now second.entry.now }
+{
+    match word {
+        FileWord::Data => second,
+        FileWord::Source | FileWord::File => first,
+    }
+}
+
 // The name of a file of a command.
 fn name_of<'a>(command: Command<'a>, word: FileWord) -> &'a str
     ensures { result.now ≡ name_at (ordered command.entry) word }
 {
-    match (command, word) {
-        (Command::Print { source }, FileWord::Source) => source,
+    match command {
+        Command::Print { source } => source,
+        Command::Run { file, input } => by_word(word, file, input),
+        Command::Attempt { source, input } => by_word(word, source, input),
     }
 }
 
@@ -34,6 +47,8 @@ fn limit_of(word: FileWord) -> usize
 {
     match word {
         FileWord::Source => SOURCE_LIMIT,
+        FileWord::File => FILE_LIMIT,
+        FileWord::Data => DATA_LIMIT,
     }
 }
 
@@ -56,15 +71,47 @@ fn refused(alloc: Global, name: &str, refusal: Refusal) -> Result<String, AllocE
     format!(in alloc; "balance: {name}: {why}\n")
 }
 
+// The names of a data file's refusal are bytes.
+fn data_refused(alloc: Global, name: &str, why: &[u8]) -> Result<ByteList, OutOfMemory>
+    ensures { IfOk result (λ line. line ≡ refused_line name.now why.now) }
+{
+    let mut line = Vec::new(alloc);
+    put(&mut line, b"balance: ")?;
+    put(&mut line, name.as_bytes())?;
+    put(&mut line, b": ")?;
+    put(&mut line, why)?;
+    put(&mut line, b"\n")?;
+    Ok(ByteList::new(line))
+}
+
+fn bytes_of(line: String) -> ByteList
+    ensures { result ≡ string_bytes line }
+{
+    ByteList::new(line.into_bytes())
+}
+
 /// The line of a cause.
-pub fn line(alloc: Global, command: Command<'_>, cause: Stop) -> Result<String, AllocError>
-    ensures { IfOk result (λ line. string_bytes line ≡ line_of (ordered command.entry) cause) }
+pub fn line(alloc: Global, command: Command<'_>, cause: &Stop) -> Result<ByteList, OutOfMemory>
+    ensures { IfOk result (λ line. line ≡ line_of (ordered command.entry) cause.now) }
 {
     match cause {
-        Stop::ReadFault(word) => fault(alloc, name_of(command, word)),
-        Stop::TooLong(word) => { too_long(alloc, name_of(command, word), limit_of(word)) }
-        Stop::SourceRefused(refusal) => refused(alloc, name_of(command, FileWord::Source), refusal),
-        Stop::NoMemory => String::from_str(alloc, "balance: no memory\n"),
+        Stop::ReadFault(word) => Ok(bytes_of(fault(alloc, name_of(command, *word))?)),
+        Stop::TooLong(word) => Ok(bytes_of(too_long(
+            alloc,
+            name_of(command, *word),
+            limit_of(*word),
+        )?)),
+        Stop::SourceRefused(refusal) => Ok(bytes_of(refused(
+            alloc,
+            name_of(command, FileWord::Source),
+            *refusal,
+        )?)),
+        Stop::DataRefused(why) => data_refused(
+            alloc,
+            name_of(command, FileWord::Data),
+            why.as_slice(),
+        ),
+        Stop::NoMemory => Ok(bytes_of(String::from_str(alloc, "balance: no memory\n")?)),
     }
 }
 

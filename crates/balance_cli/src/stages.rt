@@ -4,13 +4,15 @@ ghost use Rattle.std.specs.Prelude.{◌≡◌, ◌≤◌, MatchResult, length};
 ghost use Rattle.c_tree.specs.OneLoop.{IsOneLoop};
 ghost use Rattle.c_tree.specs.Trees.{unit as unit_in};
 ghost use Rattle.balance_cli.specs.Commands.{ordered};
-ghost use Rattle.balance_cli.specs.Orders.{print as print_order};
+ghost use Rattle.balance_cli.specs.Orders.{print as print_order, run_file as run_order, attempt as attempt_order};
 ghost use Rattle.balance_cli.specs.Plans.{Follows, plan_of};
 ghost use Rattle.balance_cli.specs.Printed.{IsPrinted};
 ghost use Rattle.balance_cli.specs.Stages.{IsLoad, IsJudged};
 ghost use Rattle.balance_cli.specs.declared.stages.Stop.TheVariants.{NoMemory};
 
+use crate::inputs::read;
 use crate::layout::layout_of;
+use crate::runs::{ran, tried};
 use crate::words::Command;
 use c_parser::parse;
 use c_tree::{OutOfMemory, Refusal, Unit};
@@ -22,14 +24,18 @@ use std::alloc::Global;
 #[derive(Clone, Copy, Debug, PartialEq, Eq)]
 pub enum FileWord {
     Source,
+    File,
+    Data,
 }
 
 /// Why a command stops before it writes.
-#[derive(Clone, Copy, Debug, PartialEq, Eq)]
+#[derive(Debug, Drop)]
 pub enum Stop {
     ReadFault(FileWord),
     TooLong(FileWord),
     SourceRefused(Refusal),
+    /// With the words of its line.
+    DataRefused(ByteList),
     NoMemory,
 }
 
@@ -59,6 +65,10 @@ impl From<Refusal> for Stop {
 #[derive(Clone, Copy, Debug, PartialEq, Eq)]
 pub enum Finish {
     Done,
+    /// A run reported a fault of its memory.
+    Reported,
+    /// A run left its arrays.
+    Outside,
 }
 
 /// What a command writes, and how it then ends.
@@ -70,6 +80,12 @@ pub struct Output {
 
 /// The bytes that a source may have.
 pub const SOURCE_LIMIT: usize = 262_144;
+
+/// The bytes that a file to be run may have.
+pub const FILE_LIMIT: usize = 16_777_216;
+
+/// The bytes that a data file may have.
+pub const DATA_LIMIT: usize = 67_108_864;
 
 fn loaded<F: Shelf>(
     alloc: Global,
@@ -118,6 +134,31 @@ fn print<F: Shelf>(alloc: Global, source: &str, shelf: &mut F) -> Result<Output,
     printed(alloc, &unit)
 }
 
+fn run_file<F: Shelf>(alloc: Global, file: &str, input: &str, shelf: &mut F) -> Result<Output, Stop>
+    ensures { Follows (plan_of (run_order file.now input.now)) (F.told shelf.old) (F.told shelf.new) result }
+{
+    let text = loaded(alloc, FileWord::File, file, FILE_LIMIT, shelf)?;
+    let unit = judged(alloc, text.as_slice())?;
+    let bytes = loaded(alloc, FileWord::Data, input, DATA_LIMIT, shelf)?;
+    let inputs = read(alloc, &unit, bytes.as_slice())?;
+    ran(alloc, &unit, &inputs)
+}
+
+fn attempt<F: Shelf>(
+    alloc: Global,
+    source: &str,
+    input: &str,
+    shelf: &mut F,
+) -> Result<Output, Stop>
+    ensures { Follows (plan_of (attempt_order source.now input.now)) (F.told shelf.old) (F.told shelf.new) result }
+{
+    let whole = loaded(alloc, FileWord::Source, source, SOURCE_LIMIT, shelf)?;
+    let unit = judged(alloc, whole.as_slice())?;
+    let bytes = loaded(alloc, FileWord::Data, input, DATA_LIMIT, shelf)?;
+    let inputs = read(alloc, &unit, bytes.as_slice())?;
+    tried(alloc, &unit, &inputs)
+}
+
 /// The stages of a command, in order. The first that fails ends it.
 pub fn prepared<F: Shelf>(
     alloc: Global,
@@ -128,5 +169,7 @@ pub fn prepared<F: Shelf>(
 {
     match command {
         Command::Print { source } => print(alloc, source, shelf),
+        Command::Run { file, input } => run_file(alloc, file, input, shelf),
+        Command::Attempt { source, input } => attempt(alloc, source, input, shelf),
     }
 }

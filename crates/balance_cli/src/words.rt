@@ -8,6 +8,8 @@ ghost use Rattle.balance_cli.specs.Orders.{order_of, is_name as is_name_of};
 #[derive(Clone, Copy)]
 pub enum Command<'a> {
     Print { source: &'a str },
+    Run { file: &'a str, input: &'a str },
+    Attempt { source: &'a str, input: &'a str },
 }
 
 // Not empty, and no option.
@@ -30,6 +32,19 @@ pub fn command_of(words: &[String]) -> Option<Command<'_>>
                 source: source.as_str(),
             },
         ),
+        [mode, file, input]
+            if mode.as_str() == "run" && is_name(file.as_str()) && is_name(input.as_str()) => Some(
+            Command::Run {
+                file: file.as_str(),
+                input: input.as_str(),
+            },
+        ),
+        [mode, source, input]
+            if mode.as_str() == "try" && is_name(source.as_str()) && is_name(input.as_str()) =>
+            Some(Command::Attempt {
+                source: source.as_str(),
+                input: input.as_str(),
+            }),
         _ => None,
     }
 }

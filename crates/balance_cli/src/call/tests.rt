@@ -20,6 +20,13 @@ for (int64_t i = 0; i <= n - 2; i++)\n    \
 A[i + 1] = A[i] + 1;\n\
 }\n";
 
+const WIDE: &str = "#include <stdint.h>\n\
+#pragma balance range n 1 1000\n\
+void shift(int64_t n, uint64_t A[n]) {\n  \
+for (int64_t i = 0; i < n; i++)\n    \
+A[i + 1] = A[i] + 1;\n\
+}\n";
+
 // How the printed text of `SHIFT` begins.
 const FIRST_LINES: &str = "#include <stdint.h>\n\
 #include <stdlib.h>\n\
@@ -43,18 +50,20 @@ struct Source {
     length: usize,
 }
 
-// Which load, which write to the output and which to the error stream fails. 0 is none.
+// Which load, which write to the output and which to the error stream fails. 0 is none. A write takes `most` bytes.
 #[derive(Clone, Copy)]
 struct Failing {
     load: u64,
     write: u64,
     line: u64,
+    most: usize,
 }
 
 const NONE: Failing = Failing {
     load: 0,
     write: 0,
     line: 0,
+    most: 8,
 };
 
 // What a call leaves.
@@ -89,12 +98,19 @@ fn padded(alloc: Global, source: &Source) -> Result<NamedFile, Fail> {
     Ok(NamedFile::new(name, ByteList::new(bytes)))
 }
 
-// Calls with these words over a shelf that has this file alone. A write takes 8 bytes at most.
-fn call(alloc: Global, source: &Source, line: &str, failing: Failing) -> Result<Left, Fail> {
+// Calls with these words over a shelf that has these files.
+fn call(alloc: Global, named: &[Source], line: &str, failing: Failing) -> Result<Left, Fail> {
     let mut files = FileList::new(alloc);
-    files.push(padded(alloc, source)?)?;
+    for file in named {
+        files.push(padded(alloc, file)?)?;
+    }
     let mut shelf = MemShelf::new(alloc, files, one_number(alloc, failing.load)?);
-    let mut out = MemSink::new(alloc, 9999, 8, one_number(alloc, failing.write)?)?;
+    let mut out = MemSink::new(
+        alloc,
+        9999,
+        std::cmp::max(1, failing.most),
+        one_number(alloc, failing.write)?,
+    )?;
     let mut err = MemSink::new(alloc, 999, 8, one_number(alloc, failing.line)?)?;
     let words = words_of(alloc, line)?;
     let status = balance(alloc, &words, &mut shelf, &mut out, &mut err);
@@ -127,7 +143,7 @@ const BIG: Source = Source {
 #[test]
 fn prints_the_instrumented_text(rt: HostRuntime) -> Result<(), Fail> {
     for (source, line) in [(SHIFT_FILE, "print shift.c"), (FULL, "print full.c")] {
-        let left = call(rt.alloc(), &source, line, NONE)?;
+        let left = call(rt.alloc(), &[source], line, NONE)?;
         assert_eq!(rt; left.status, Status::Done, "{line}");
         assert!(rt;
             left.out
@@ -200,6 +216,63 @@ fn ends_by_the_table(rt: HostRuntime) -> Result<(), Fail> {
             "",
             USAGE,
         ),
+        (SHIFT_FILE, "run shift.c", NONE, Status::Usage, 0, "", USAGE),
+        (SHIFT_FILE, "try", NONE, Status::Usage, 0, "", USAGE),
+        (
+            SHIFT_FILE,
+            "try shift.c -",
+            NONE,
+            Status::Usage,
+            0,
+            "",
+            USAGE,
+        ),
+        (SHIFT_FILE, "run -s d1", NONE, Status::Usage, 0, "", USAGE),
+        (
+            SHIFT_FILE,
+            "fly shift.c d1",
+            NONE,
+            Status::Usage,
+            0,
+            "",
+            USAGE,
+        ),
+        (
+            SHIFT_FILE,
+            "try shift.c d1 f1",
+            NONE,
+            Status::Usage,
+            0,
+            "",
+            USAGE,
+        ),
+        (
+            SHIFT_FILE,
+            "run none.c d1",
+            NONE,
+            Status::ReadFault,
+            1,
+            "",
+            "balance: cannot read none.c\n",
+        ),
+        (
+            SHIFT_FILE,
+            "try shift.c d1",
+            NONE,
+            Status::ReadFault,
+            2,
+            "",
+            "balance: cannot read d1\n",
+        ),
+        (
+            other,
+            "try shift.c d1",
+            NONE,
+            Status::SourceRefused,
+            1,
+            "",
+            "balance: shift.c: S0 Unbuilt\n",
+        ),
         (
             BIG,
             "print big.c",
@@ -228,11 +301,176 @@ fn ends_by_the_table(rt: HostRuntime) -> Result<(), Fail> {
             "",
         ),
     ] {
-        let left = call(rt.alloc(), &source, line, failing)?;
+        let left = call(rt.alloc(), &[source], line, failing)?;
         assert_eq!(rt; left.status, status, "{line}");
         assert_eq!(rt; left.loads, loads, "{line}");
         assert_eq!(rt; left.out.bytes.as_slice(), out.as_bytes(), "{line}");
         assert_eq!(rt; left.err.bytes.as_slice(), told.as_bytes(), "{line}");
     }
+    Ok(())
+}
+
+const WIDE_FILE: Source = Source {
+    name: "wide.c",
+    text: WIDE,
+    length: 0,
+};
+
+// A data file named d1.
+fn data_file(text: &'static str) -> Source {
+    Source {
+        name: "d1",
+        text,
+        length: 0,
+    }
+}
+
+const D1: &str = "n = 4\nA = 5 0 0 0\n";
+
+const BALANCED: &str = "A = 5 6 7 8\nbalanced\n";
+
+#[test]
+fn runs_on_data(rt: HostRuntime) -> Result<(), Fail> {
+    for (source, line, values, status, text) in [
+        (SHIFT_FILE, "try shift.c d1", D1, Status::Done, BALANCED),
+        (
+            SHIFT_FILE,
+            "run shift.c d1",
+            D1,
+            Status::Done,
+            "A = 5 6 7 8\nplain\n",
+        ),
+        (
+            SHIFT_FILE,
+            "try shift.c d1",
+            "n = 1\nA = 5\n",
+            Status::Done,
+            "A = 5\nbalanced\n",
+        ),
+        (
+            WIDE_FILE,
+            "try wide.c d1",
+            D1,
+            Status::Outside,
+            "A = 5 6 7 8\noutside A\n",
+        ),
+    ] {
+        let left = call(rt.alloc(), &[source, data_file(values)], line, NONE)?;
+        assert_eq!(rt; left.status, status, "{line}");
+        assert_eq!(rt; left.loads, 2, "{line}");
+        assert_eq!(rt; left.out.bytes.as_slice(), text.as_bytes(), "{line}");
+        assert_eq!(rt; left.err.bytes.as_slice(), b"".as_slice(), "{line}");
+    }
+    Ok(())
+}
+
+#[test]
+fn refuses_data(rt: HostRuntime) -> Result<(), Fail> {
+    for (values, told) in [
+        ("n = 4\nA = 5 0 0\n", "balance: d1: I4 WrongCells A 4 3\n"),
+        ("n = 1001\nA = 5 0 0 0\n", "balance: d1: I2 OutOfRange n\n"),
+        (
+            "n = 4\nA = 5 0 0 18446744073709551616\n",
+            "balance: d1: I1 Syntax in line 2\n",
+        ),
+        (
+            "n = 1001\nA = 5 0 0 18446744073709551616\n",
+            "balance: d1: I1 Syntax in line 2\n",
+        ),
+        ("", "balance: d1: I1 Syntax in line 1\n"),
+        ("n = 4\nA 5 0 0 0\n", "balance: d1: I1 Syntax in line 2\n"),
+        (
+            "n = 123456789012345678901234567890\nA = 5\n",
+            "balance: d1: I1 Syntax in line 1\n",
+        ),
+    ] {
+        let left = call(
+            rt.alloc(),
+            &[SHIFT_FILE, data_file(values)],
+            "try shift.c d1",
+            NONE,
+        )?;
+        assert_eq!(rt; left.status, Status::DataRefused, "{values}");
+        assert_eq!(rt; left.loads, 2, "{values}");
+        assert_eq!(rt; left.out.bytes.as_slice(), b"".as_slice(), "{values}");
+        assert_eq!(rt; left.err.bytes.as_slice(), told.as_bytes(), "{values}");
+    }
+    Ok(())
+}
+
+#[test]
+fn stops_at_a_second_load_that_fails(rt: HostRuntime) -> Result<(), Fail> {
+    let failing = Failing { load: 2, ..NONE };
+    let left = call(
+        rt.alloc(),
+        &[SHIFT_FILE, data_file(D1)],
+        "try shift.c d1",
+        failing,
+    )?;
+    assert_eq!(rt; left.status, Status::ReadFault);
+    assert_eq!(rt; left.out.bytes.as_slice(), b"".as_slice());
+    assert_eq!(rt;
+        left.err.bytes.as_slice(),
+        b"balance: cannot read d1\n".as_slice()
+    );
+    Ok(())
+}
+
+#[test]
+fn writes_a_prefix_where_a_write_fails(rt: HostRuntime) -> Result<(), Fail> {
+    for (most, writes) in [(1, 21), (8, 3)] {
+        for whole in 0..writes {
+            let failing = Failing {
+                write: whole + 1,
+                most,
+                ..NONE
+            };
+            let left = call(
+                rt.alloc(),
+                &[SHIFT_FILE, data_file(D1)],
+                "try shift.c d1",
+                failing,
+            )?;
+            let out = left.out.bytes.as_slice();
+            assert_eq!(rt; left.status, Status::WriteFault, "{whole} writes");
+            assert!(rt; BALANCED.as_bytes().starts_with(out), "{whole} writes");
+            assert!(rt;
+                out.len() <= most.saturating_mul(whole as usize),
+                "{whole} writes"
+            );
+            assert_eq!(rt;
+                left.err.bytes.as_slice(),
+                b"balance: cannot write\n".as_slice()
+            );
+        }
+    }
+    Ok(())
+}
+
+// A row of each declared name, and behind them rows of a name that isn't declared.
+fn many_names(alloc: Global) -> Result<NamedFile, Fail> {
+    let mut bytes = Vec::from_slice(alloc, D1.as_bytes())?;
+    for _ in 0..10_000 {
+        bytes.extend_from_slice(b"b = 1\n")?;
+    }
+    Ok(NamedFile::new(String::from_str(alloc, "d1")?, ByteList::new(bytes)))
+}
+
+#[test]
+fn refuses_many_names(rt: HostRuntime) -> Result<(), Fail> {
+    let alloc = rt.alloc();
+    let mut files = FileList::new(alloc);
+    files.push(padded(alloc, &SHIFT_FILE)?)?;
+    files.push(many_names(alloc)?)?;
+    let mut shelf = MemShelf::new(alloc, files, Numbers::new(alloc));
+    let mut out = MemSink::new(alloc, 99, 8, Numbers::new(alloc))?;
+    let mut err = MemSink::new(alloc, 99, 8, Numbers::new(alloc))?;
+    let words = words_of(alloc, "run shift.c d1")?;
+    let status = balance(alloc, &words, &mut shelf, &mut out, &mut err);
+    assert_eq!(rt; status, Status::DataRefused);
+    assert_eq!(rt;
+        err.bytes.as_slice(),
+        b"balance: d1: I1 Syntax in line 3\n".as_slice()
+    );
     Ok(())
 }

@@ -14,4 +14,4 @@ pub returns-clause-asked : goal.returns-clause-asked
 returns-clause-asked g c = asked _ _ _ c.answered.ensures
 
 pub returns-clause-complete : goal.returns-clause-complete
-returns-clause-complete g c = complete c.one_unit.ensures _ _ _ c.answered.ensures
+returns-clause-complete g c = complete c.one_unit.ensures c.one_answer.ensures _ _ _ c.answered.ensures
