@@ -199,5 +199,8 @@ one_loop_accepted u h = subst (λ (v : PlainUnit). IsAcceptedPrinted (guarded v)
     (accepted_by (guarded (unit_of h.parts)) refl (its_head h.parts h.allowed) (its_text h.parts h.allowed))
 
 pub one_loop_runnable : (u : PlainUnit) → IsOneLoop u → IsRunnable (guarded u)
-one_loop_runnable u h = inr (one_loop_accepted u h, subst (λ (v : PlainUnit). all_make_no_table (guarded v).body ≡ true) (sym h.same)
-    (no_tables (function_name h.parts.function) (head h.parts h.allowed) (guarded (unit_of h.parts)).body [] (its_text h.parts h.allowed)))
+one_loop_runnable u h = inr (
+  one_loop_accepted u h,
+  subst (λ (v : PlainUnit). all_make_no_table (guarded v).body ≡ true) (sym h.same)
+      (no_tables (function_name h.parts.function) (head h.parts h.allowed) (guarded (unit_of h.parts)).body [] (its_text h.parts h.allowed)),
+)
