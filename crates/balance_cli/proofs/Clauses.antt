@@ -9,7 +9,7 @@ use Rattle.balance_cli.specs.Met.{Met}
 use Rattle.balance_cli.specs.Orders.{Order, print, run_file, attempt, files_of}
 use Rattle.balance_cli.specs.Plans.{Files, plan_of, Follows, AsksOnly, Ends}
 use Rattle.balance_cli.specs.Statuses.{status_of, finish_status, ideal_status}
-use Rattle.balance_cli.specs.Table.{Cause, AsksInOrder, IsCalm, EndsAsDefined}
+use Rattle.balance_cli.specs.Table.{Cause, IsDone, AsksInOrder, IsCalm, EndsAsDefined}
 use Rattle.balance_cli.specs.declared.stages.Finish.{Finish}
 use Rattle.balance_cli.specs.declared.stages.Finish.TheVariants as finish
 use Rattle.balance_cli.specs.declared.stages.Output.{Output}
@@ -20,31 +20,20 @@ use Rattle.balance_cli.specs.declared.status.Status.TheVariants as status
 use Rattle.balance_cli.proofs.Plans.{asked_nothing, form_of_accepted}
 use Rattle.balance_cli.proofs.Endings.{defined_end, fault_end, asked_end, IsCalmFor, IsJudgedOnce, HasFrames, determined}
 
-done_cause : (order : Order) (m : Met) (ends : Status) (output : Output) (f : Finish) → output.finish ≡ f → Follows (plan_of order) m.shelf_before m.shelf (Ok output) → IsWritten output m.out_before m.out m.err_before m.err ends → Cause (Some order) m ends
-done_cause order m ends output finish.Done is follows written =
-    subst (Cause (Some order) m) (sym (written.status ∙ ap finish_status is)) (record {
+done_so : (order : Order) (m : Met) (f : Finish) → IsDone order f m → Cause (Some order) m (finish_status f)
+done_so order m finish.Done done = done
+done_so order m finish.Reported done = done
+done_so order m finish.Outside done = done
+
+done_cause : (order : Order) (m : Met) (ends : Status) (output : Output) → Follows (plan_of order) m.shelf_before m.shelf (Ok output) → IsWritten output m.out_before m.out m.err_before m.err ends → Cause (Some order) m ends
+done_cause order m ends output follows written =
+    subst (Cause (Some order) m) (sym written.status) (done_so order m output.finish (record {
       output = output;
       defined = defined_end (plan_of order) _ _ follows.names (Ok output) tt follows.ends;
-      finish = is;
+      finish = refl;
       whole = written.whole;
       no_line = written.no_line;
-    })
-done_cause order m ends output finish.Reported is follows written =
-    subst (Cause (Some order) m) (sym (written.status ∙ ap finish_status is)) (record {
-      output = output;
-      defined = defined_end (plan_of order) _ _ follows.names (Ok output) tt follows.ends;
-      finish = is;
-      whole = written.whole;
-      no_line = written.no_line;
-    })
-done_cause order m ends output finish.Outside is follows written =
-    subst (Cause (Some order) m) (sym (written.status ∙ ap finish_status is)) (record {
-      output = output;
-      defined = defined_end (plan_of order) _ _ follows.names (Ok output) tt follows.ends;
-      finish = is;
-      whole = written.whole;
-      no_line = written.no_line;
-    })
+    }))
 
 stop_cause : (order : Order) (m : Met) (cause : Stop) (ends : Status) → ends ≡ status_of cause → Follows (plan_of order) m.shelf_before m.shelf (Err cause) → m.out ≡ m.out_before → Tries m.err_before m.err (line_of order cause) → Cause (Some order) m ends
 stop_cause order m (ReadFault word) ends is follows unwritten line =
@@ -81,7 +70,7 @@ stop_cause order m NoMemory ends is follows unwritten line =
     subst (Cause (Some order) m) (sym is) (record { unwritten = unwritten; line = line })
 
 order_cause : (order : Order) (m : Met) (ends : Status) (outcome : Result Output Stop) → Follows (plan_of order) m.shelf_before m.shelf outcome → IsEnding order outcome m.out_before m.out m.err_before m.err ends → Cause (Some order) m ends
-order_cause order m ends (Ok output) follows (inl written) = done_cause order m ends output output.finish refl follows written
+order_cause order m ends (Ok output) follows (inl written) = done_cause order m ends output follows written
 order_cause order m ends (Ok output) follows (inr cut) =
     subst (Cause (Some order) m) (sym cut.status) (record {
       output = output;
