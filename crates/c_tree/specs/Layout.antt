@@ -1,8 +1,8 @@
 -- The bytes of a unit: how it is printed.
-use Rattle.std.specs.Prelude.{ℕ, zero, suc, ◌+◌, ◌^◌, Bool, true, false, not, ◌||◌, List, [], ◌∷◌, ◌++◌, ℤ, pos, negsuc, Option, Some, None, bytes_eq, codes, decimal}
-use Rattle.std.specs.List.{list_any}
+use Rattle.std.specs.Prelude.{ℕ, zero, suc, ◌+◌, ◌^◌, Bool, true, false, not, ◌||◌, List, [], ◌∷◌, ◌++◌, ℤ, pos, negsuc, Option, Some, None, codes, decimal}
 use Rattle.c_tree.specs.Plain.{Word, PlainExpr, lit, var, cell, un, bin, cast, test, umin, umax, least, greatest, widen, big, PlainExprs, no_exprs, more_exprs, PlainTest, PlainStmt, loop, choice, assign, table, begin, check, verdict, PlainStmts, no_stmts, more_stmts, PlainParam, int_param, array_param, PlainUnit}
 use Rattle.c_tree.specs.Kinds.{Kind, kind, join, is_signed, is_word}
+use Rattle.c_tree.specs.Names.{is_among, arrays_in, ints_in}
 use Rattle.c_tree.specs.declared.expr.Rel.{Rel}
 use Rattle.c_tree.specs.declared.expr.Rel.TheVariants.{Lt, Le, Gt, Ge, Eq, Ne}
 use Rattle.c_tree.specs.declared.expr.UnOp.{UnOp}
@@ -68,9 +68,6 @@ wrapped false text = text
 pub record Scope : Type 0 where
   pub arrays : List Word
   pub signed : List Word
-
-abbrev pub is_among : List Word → Word → Bool
-is_among xs x = list_any (bytes_eq x) xs
 
 abbrev pub kind_in : Scope → PlainExpr → Kind
 kind_in sc = kind (is_among sc.signed)
@@ -191,17 +188,6 @@ abbrev pub ranges_text : List (Word × ℤ × ℤ) → List ℕ
 ranges_text [] = []
 ranges_text (r ∷ rs) =
     codes "#pragma balance range " ++ (r.0 ++ (codes " " ++ (int_text r.1 ++ (codes " " ++ (int_text r.2 ++ (end_line ++ ranges_text rs))))))
-
--- the names of the arrays, and of the signed parameters
-abbrev pub arrays_in : List PlainParam → List Word
-arrays_in [] = []
-arrays_in (int_param x ∷ ps) = arrays_in ps
-arrays_in (array_param x constant extents ∷ ps) = x ∷ arrays_in ps
-
-abbrev pub ints_in : List PlainParam → List Word
-ints_in [] = []
-ints_in (int_param x ∷ ps) = x ∷ ints_in ps
-ints_in (array_param x constant extents ∷ ps) = ints_in ps
 
 abbrev pub scope_of : List PlainParam → Scope
 scope_of ps = record { arrays = arrays_in ps; signed = ints_in ps }

@@ -2,10 +2,13 @@ pub mod Accesses
 pub mod Arrays
 pub mod Counted
 pub mod Fault
+pub mod Grammar
 pub mod Inputs
 pub mod Instances
+pub mod KindOf
 pub mod Kinds
 pub mod Layout
+pub mod Names
 pub mod OneLoop
 pub mod Plain
 pub mod Reserved

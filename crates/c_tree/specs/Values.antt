@@ -1,6 +1,6 @@
 -- Values: signed, words and wide.
-use Rattle.std.specs.Prelude.{ℕ, zero, suc, ◌+◌, ◌-◌, ◌*◌, ◌/◌, ◌%◌, ◌^◌, Bool, true, false, not, ◌||◌, if◌then◌else◌, nat_lt, nat_le, nat_eq, List, [], ◌∷◌, ℤ, pos, ◌+ℤ◌, ◌-ℤ◌, ◌*ℤ◌, neg_ℤ, int_lt, int_le, bit_and, bit_or, bit_xor, bytes_eq}
-use Rattle.std.specs.Int.{w64, w128, int_wrap, int_gap, int_min, int_max, cast_unsigned}
+use Rattle.std.specs.Prelude.{ℕ, zero, suc, ◌+◌, ◌-◌, ◌*◌, ◌/◌, ◌%◌, ◌^◌, Bool, true, false, not, ◌||◌, if◌then◌else◌, nat_lt, nat_le, nat_eq, List, [], ◌∷◌, ℤ, pos, negsuc, ◌+ℤ◌, ◌-ℤ◌, ◌*ℤ◌, neg_ℤ, int_lt, int_le, bit_and, bit_or, bit_xor, bytes_eq}
+use Rattle.std.specs.Int.{w64, int_wrap, int_gap, int_min, int_max}
 use Rattle.std.specs.Ordering.{int_eq}
 use Rattle.c_tree.specs.Plain.{Word, PlainExpr, lit, var, cell, un, bin, cast, test, umin, umax, least, greatest, widen, big}
 use Rattle.c_tree.specs.Kinds.{Kind, kind as kind_by}
@@ -54,12 +54,17 @@ exact = signed_by (λ z. z)
 abbrev pub signed : PlainExpr → Vars → ℤ
 signed = signed_by (int_wrap w64)
 
+-- what is left of a whole number modulo m
+abbrev pub remainder : ℕ → ℤ → ℕ
+remainder m (pos n) = n % m
+remainder m (negsuc n) = m - 1 - n % m
+
 -- the value of a signed number as a word and as a wide value
 abbrev pub as_word : ℤ → ℕ
-as_word = cast_unsigned w64
+as_word = remainder (2 ^ 64)
 
 abbrev pub as_wide : ℤ → ℕ
-as_wide = cast_unsigned w128
+as_wide = remainder (2 ^ 128)
 
 abbrev pub word_un : UnOp → ℕ → ℕ
 word_un Neg a = (2 ^ 64 - a) % 2 ^ 64

@@ -9,7 +9,7 @@ use std::alloc::Global;
 
 /// The sum of a constant and of terms. In a [`Frame`](crate::Frame) the variables are numbered from
 /// 1: the `int64_t` parameters in declared order.
-#[derive(Debug, Drop)]
+#[derive(Drop)]
 pub struct Affine {
     pub constant: i64,
     pub terms: Terms,

@@ -42,7 +42,7 @@ pub enum BinOp {
     Or,
 }
 
-#[derive(Debug, Drop)]
+#[derive(Drop)]
 pub enum Expr {
     Lit(u64),
     Var(Name),

@@ -10,14 +10,14 @@ use sqlite_items::Items;
 pub struct Site(pub u32);
 
 /// The parameters and arrays of a unit, each in declared order.
-#[derive(Debug, Drop)]
+#[derive(Drop)]
 pub struct Frame {
     pub ints: Ranges,
     pub arrays: Arrays,
 }
 
 /// An array, with its extents as sums of the `int64_t` parameters, which are numbered from 1.
-#[derive(Debug, Drop)]
+#[derive(Drop)]
 pub struct ArrayInfo {
     pub name: Name,
     pub constant: bool,
@@ -28,7 +28,7 @@ pub type Arrays = Items<ArrayInfo>;
 
 /// What a run is given: a value for each `int64_t` parameter, and the cells of each array, both in
 /// declared order.
-#[derive(Debug, Drop)]
+#[derive(Drop)]
 pub struct Inputs {
     pub ints: Ints,
     pub cells: Cells,

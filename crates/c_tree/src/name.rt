@@ -1,6 +1,6 @@
 //! Names.
 
-ghost use Rattle.std.specs.Prelude.{◌≡◌, IfOk};
+ghost use Rattle.std.specs.Prelude.{◌≡◌, IfOk, bytes_eq};
 
 use crate::copied::Copied;
 use crate::memory::OutOfMemory;
@@ -8,7 +8,7 @@ use sqlite_items::Items;
 use std::alloc::Global;
 
 /// The bytes of a word.
-#[derive(Debug, Drop)]
+#[derive(Drop)]
 pub struct Name {
     pub bytes: Items<u8>,
 }
@@ -23,6 +23,13 @@ impl Name {
         Ok(Name {
             bytes: Items::from_slice(alloc, self.bytes.as_slice())?,
         })
+    }
+
+    /// Whether both have the same bytes.
+    pub fn same(&self, other: &Name) -> bool
+        ensures { result ≡ bytes_eq self.now.bytes other.now.bytes }
+    {
+        self.bytes.as_slice() == other.bytes.as_slice()
     }
 }
 

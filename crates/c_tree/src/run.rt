@@ -17,7 +17,7 @@ pub struct Flip {
 }
 
 /// What a run found. Arrays are numbered from 0 in declared order.
-#[derive(Debug, Drop)]
+#[derive(Drop)]
 pub enum Verdict {
     /// A source ended.
     Plain,
@@ -34,7 +34,7 @@ pub enum Verdict {
 pub type ArrayNumbers = Items<u32>;
 
 /// The end of a run. A counter stays at 2^128 - 1 once there.
-#[derive(Debug, Drop)]
+#[derive(Drop)]
 pub struct Ended {
     pub verdict: Verdict,
     pub arrays: Cells,
@@ -50,7 +50,7 @@ pub struct Ended {
 pub type Lengths = Items<u64>;
 
 /// For each array, in declared order, its definition total and its use total, modulo 2^128.
-#[derive(Debug, Drop)]
+#[derive(Drop)]
 pub struct Totals {
     pairs: Vec<(u128, u128)>,
 }
@@ -90,21 +90,5 @@ impl Totals {
     {
         let (definition, uses) = self.pairs[array];
         definition == uses
-    }
-}
-
-#[cfg(test)]
-mod tests {
-    use super::*;
-    use std::test::Fail;
-
-    #[test]
-    fn totals_agree_where_the_pair_is_equal(rt: HostRuntime) -> Result<(), Fail> {
-        let pairs = vec![in rt.alloc(); (18, 18), (26, 34), (2, 18446744073709551618)]?;
-        let totals = Totals::from_vec(pairs);
-        assert!(rt; totals.agree(0));
-        assert!(rt; !totals.agree(1));
-        assert!(rt; !totals.agree(2), "they differ by 2^64");
-        Ok(())
     }
 }

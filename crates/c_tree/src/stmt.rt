@@ -13,7 +13,7 @@ use std::alloc::Global;
 /// Comparisons joined by `&&`: each with its left and its right side.
 pub type Tests = Items<(Rel, Expr, Expr)>;
 
-#[derive(Debug, Drop)]
+#[derive(Drop)]
 pub enum Stmt {
     /// A loop over `var` from `lo` on while `var rel hi`.
     For {

@@ -1,6 +1,7 @@
 //! Units: a whole source or printed text.
 
 ghost use Rattle.std.specs.Prelude.{◌≡◌, IfOk, map};
+ghost use Rattle.c_tree.specs.Names.{arrays_in, ints_in, words};
 ghost use Rattle.c_tree.specs.Trees.{param, unit};
 
 use crate::copied::Copied;
@@ -11,7 +12,7 @@ use crate::stmt::Stmts;
 use sqlite_items::Items;
 use std::alloc::Global;
 
-#[derive(Debug, Drop)]
+#[derive(Drop)]
 pub enum Param {
     /// An `int64_t` parameter.
     Int(Name),
@@ -31,7 +32,7 @@ pub type Params = Items<Param>;
 /// Declared words, each with its first value.
 pub type Words = Items<(Name, u64)>;
 
-#[derive(Debug, Drop)]
+#[derive(Drop)]
 pub struct Unit {
     /// The version of a printed text; a source has none.
     pub version: Option<u8>,
@@ -63,6 +64,32 @@ impl Param {
             },
         })
     }
+}
+
+/// The names of the `int64_t` parameters, in declared order.
+pub fn int_names(alloc: Global, params: &[Param]) -> Result<NameList, OutOfMemory>
+    ensures { IfOk result (λ names. words names ≡ ints_in (map param params.now)) }
+{
+    let mut names = Items::new(alloc);
+    for p in params {
+        if let Param::Int(name) = p {
+            names.push(name.copy(alloc)?)?;
+        }
+    }
+    Ok(names)
+}
+
+/// The names of the arrays, in declared order.
+pub fn array_names(alloc: Global, params: &[Param]) -> Result<NameList, OutOfMemory>
+    ensures { IfOk result (λ names. words names ≡ arrays_in (map param params.now)) }
+{
+    let mut names = Items::new(alloc);
+    for p in params {
+        if let Param::Array { name, .. } = p {
+            names.push(name.copy(alloc)?)?;
+        }
+    }
+    Ok(names)
 }
 
 /// The same plain trees.
@@ -118,87 +145,5 @@ impl Unit {
             wides: self.wides.copy(alloc)?,
             body: self.body.copy(alloc)?,
         })
-    }
-}
-
-#[cfg(test)]
-mod tests {
-    use super::*;
-    use crate::expr::{BinOp, Expr, Rel};
-    use crate::stmt::Stmt;
-    use std::alloc::AllocError;
-    use std::test::Fail;
-
-    fn name(alloc: Global, text: &str) -> Result<Name, AllocError> {
-        Ok(Name {
-            bytes: Items::from_slice(alloc, text.as_bytes())?,
-        })
-    }
-
-    fn variable(alloc: Global, text: &str) -> Result<Expr, AllocError> {
-        Ok(Expr::Var(name(alloc, text)?))
-    }
-
-    fn cell(alloc: Global, array: &str, subscript: Expr) -> Result<Expr, OutOfMemory> {
-        let array = name(alloc, array)?;
-        Ok(Expr::Cell(array, one(alloc, subscript)?))
-    }
-
-    fn binary(alloc: Global, op: BinOp, a: Expr, b: Expr) -> Result<Expr, OutOfMemory> {
-        let a = Box::new(alloc, a)?;
-        Ok(Expr::Bin(op, a, Box::new(alloc, b)?))
-    }
-
-    fn one<T: Drop>(alloc: Global, item: T) -> Result<Items<T>, OutOfMemory> {
-        let mut items = Items::new(alloc);
-        items.push(item)?;
-        Ok(items)
-    }
-
-    /// `for (int64_t i = 0; i < n - 1; i++) A[i + 1] = A[i] + 1;`
-    fn shift_loop(alloc: Global) -> Result<Stmt, OutOfMemory> {
-        let next = binary(alloc, BinOp::Add, variable(alloc, "i")?, Expr::Lit(1))?;
-        let old = cell(alloc, "A", variable(alloc, "i")?)?;
-        let assign = Stmt::Assign {
-            target: cell(alloc, "A", next)?,
-            op: None,
-            value: binary(alloc, BinOp::Add, old, Expr::Lit(1))?,
-        };
-        Ok(Stmt::For {
-            var: name(alloc, "i")?,
-            lo: Expr::Lit(0),
-            rel: Rel::Lt,
-            hi: binary(alloc, BinOp::Sub, variable(alloc, "n")?, Expr::Lit(1))?,
-            body: one(alloc, assign)?,
-        })
-    }
-
-    /// `void shift(int64_t n, uint64_t A[n])`, where n is 1 to 1000
-    fn shift(alloc: Global) -> Result<Unit, OutOfMemory> {
-        let mut params = one(alloc, Param::Int(name(alloc, "n")?))?;
-        params.push(Param::Array {
-            name: name(alloc, "A")?,
-            constant: false,
-            extents: one(alloc, variable(alloc, "n")?)?,
-        })?;
-        Ok(Unit {
-            version: None,
-            ranges: one(alloc, (name(alloc, "n")?, 1, 1000))?,
-            name: name(alloc, "shift")?,
-            params,
-            words: Items::new(alloc),
-            wides: Items::new(alloc),
-            body: one(alloc, shift_loop(alloc)?)?,
-        })
-    }
-
-    #[test]
-    fn copies_a_unit(rt: HostRuntime) -> Result<(), Fail> {
-        let unit = shift(rt.alloc())?;
-        let copied = unit.copy(rt.alloc())?;
-        let wanted = format!(in rt.alloc(); "{unit:?}")?;
-        let got = format!(in rt.alloc(); "{copied:?}")?;
-        assert_eq!(rt; got.as_str(), wanted.as_str());
-        Ok(())
     }
 }
