@@ -1,0 +1,15 @@
+pub mod Complete
+pub mod CondReaches
+pub mod CondSound
+pub mod Edges
+pub mod Low
+pub mod Reaches
+pub mod Sound
+pub mod StepLemmas
+pub mod TwoStages
+pub mod Whole
+pub mod CompleteBlocks
+pub mod SoundBlocks
+pub mod Words
+pub mod HeadLaws
+pub mod PrintedHeadLaws
