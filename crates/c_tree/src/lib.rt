@@ -16,6 +16,7 @@ mod run;
 mod signed_names;
 mod stmt;
 mod symbol;
+mod token;
 mod unit;
 
 pub use affine::{Affine, Affines, Terms};
@@ -31,4 +32,5 @@ pub use run::{ArrayNumbers, Ended, Flip, Lengths, Totals, Verdict};
 pub use signed_names::{Kind, SignedNames, is_named};
 pub use stmt::{Stmt, Stmts, Tests};
 pub use symbol::Symbol;
+pub use token::{Token, TokenKind, Tokens};
 pub use unit::{Param, Params, Ranges, Unit, Words, array_names, int_names};
