@@ -6,6 +6,7 @@ pub mod StandsAccess
 pub mod StandsNames
 pub mod StandsSigned
 pub mod StandsWords
+pub mod SignedSubscripts
 pub mod StandsWides
 pub mod StandsSteps
 pub mod StandsTrees
