@@ -1,4 +1,3 @@
-pub mod Shifts
 pub mod Turns
 pub mod StandsSame
 pub mod StandsCells

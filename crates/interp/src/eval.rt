@@ -44,7 +44,7 @@ impl Machine {
                 self.binary(alloc, scene, why, *op, a, b)
             }
             WordExpr::Cast(e) | WordExpr::Index(e) => {
-                Some(signed(e, &scene.values).cast_unsigned())
+                Some(words::as_word(signed(e, &scene.values)))
             }
             WordExpr::Test(rel, a, b) => {
                 let a = self.word(alloc, scene, why, a)?;
@@ -256,7 +256,7 @@ impl Machine {
                 let b = self.wide(alloc, scene, why, b)?;
                 Some(words::wide_op(*op, a, b))
             }
-            WideExpr::Cast(e) => Some((signed(e, &scene.values) as i128).cast_unsigned()),
+            WideExpr::Cast(e) => Some(words::as_wide(signed(e, &scene.values))),
             WideExpr::Word(e) => Some(self.word(alloc, scene, why, e)? as u128),
         }
     }

@@ -76,7 +76,7 @@ impl Machine {
                 word,
                 extent,
                 array,
-            } => if self.word_at(*word) < signed(extent, &scene.values).cast_unsigned() {
+            } => if self.word_at(*word) < words::as_word(signed(extent, &scene.values)) {
                 Some(())
             } else {
                 *why = Stop::Index(*array);
