@@ -1,6 +1,6 @@
 -- The test is true exactly of the units of the one-loop form.
 use Rattle.std.proofs.Common.{◌≡◌, ◌⊎◌, inl, inr, ℕ, zero, suc, ◌+◌, ◌-◌, ◌^◌, ◌<◌, ◌≤◌, List, [], ◌∷◌, ◌++◌, length, Bool, true, false, not, ◌&&◌, nat_le, nat_lt, Option, Some, None, is_none, ℤ, pos, negsuc, int_le, refl, sym, ap, subst, ◌∙◌, arith}
-use Rattle.std.proofs.lemmas.Bool.{and_parts, and_from, leb-true, le-leb, lt-ltb, ltb-true, not-true, not_from_false}
+use Rattle.std.proofs.lemmas.Bool.{and_parts, and_from, both_ways, leb-true, le-leb, lt-ltb, ltb-true, not-true, not_from_false}
 use Rattle.std.proofs.lemmas.Slice.Eq.{bytes_eq-Decides}
 use Rattle.std.proofs.lemmas.List.{length-append}
 use Rattle.std.specs.List.{AllByRecursion}
@@ -466,3 +466,10 @@ module _ (l : OneLoop) (h : IsAllowed l) where
 
 pub kept : (u : PlainUnit) → IsOneLoop u → is_one_loop u ≡ true
 kept u h = ap is_one_loop h.same ∙ whole h.parts h.allowed
+
+decided : (u : PlainUnit) → (b : Bool) → is_one_loop u ≡ b → IsOneLoop u ⊎ (IsOneLoop u → ⊥)
+decided u true is = inl (found u is)
+decided u false is = inr (λ form. both_ways (is_one_loop u) is (kept u form))
+
+pub one_loop_or_not : (u : PlainUnit) → IsOneLoop u ⊎ (IsOneLoop u → ⊥)
+one_loop_or_not u = decided u (is_one_loop u) refl
