@@ -1,0 +1,14 @@
+//! The parser of expressions and conditions: no call is nested by parentheses.
+#![tactic(auto)]
+
+mod build;
+mod condition;
+mod error;
+mod expression;
+mod steps;
+mod terminal;
+
+pub use condition::conds;
+pub use error::ParseError;
+pub use expression::parse_expression;
+pub use terminal::Terminal;
