@@ -5,6 +5,7 @@ ghost use Rattle.c_tree.specs.Plain.{PlainExpr};
 ghost use Rattle.c_tree.specs.Trees as t;
 ghost use Rattle.expression_parser.specs.Terminals.{all_seen, word_at};
 ghost use Rattle.c_tree.specs.Grammar.Expressions.{IsLow, limit};
+ghost use Rattle.grammar_reading.specs.Blocks as blocks;
 ghost use Rattle.grammar_reading.specs.Reading as spec;
 ghost use Rattle.expression_parser.specs.Outcome.{Gives};
 ghost use Rattle.expression_parser.specs.Two.{call_of};
@@ -246,7 +247,8 @@ fn named<'s>(alloc: Global, c: Rules, depth: usize, start: u32, end: u32, text: 
     }
 }
 
-fn word(text: &[u8], start: u32, end: u32) -> &[u8]
+/// The bytes from one place of the text to another, none where that lies outside.
+pub fn word(text: &[u8], start: u32, end: u32) -> &[u8]
     ensures { result.now ≡ word_at text.now start end }
 {
     let from = start as usize;
@@ -284,6 +286,14 @@ fn cells<'s>(alloc: Global, c: Rules, depth: usize, text: &[u8], ts: &'s [Termin
         }
     }
     Err(ParseError::Syntax(rest.len()))
+}
+
+/// A whole expression, and the tokens behind it.
+pub fn side<'s>(alloc: Global, c: Rules, text: &[u8], ts: &'s [Terminal]) -> Result<(Expr, &'s [Terminal]), ParseError>
+    ensures { Gives (λ x. (t.expr x.0, all_seen text.now x.1.now)) result (blocks.side c (all_seen text.now ts.entry.now)) }
+{
+    let (built, rest) = expression(alloc, c, usize::from(c.limit), 1, text, ts)?;
+    Ok((built.tree, rest))
 }
 
 /// The tree of the tokens, all of them.

@@ -8,7 +8,9 @@ mod expression;
 mod steps;
 mod terminal;
 
+pub use build::{Built, name_of};
 pub use condition::conds;
 pub use error::ParseError;
-pub use expression::parse_expression;
+pub use expression::{parse_expression, side, word};
+pub use steps::{after, expect, number};
 pub use terminal::Terminal;

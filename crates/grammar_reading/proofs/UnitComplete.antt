@@ -18,7 +18,7 @@ use Rattle.grammar_reading.specs.declared.rules.Rules.{Rules}
 use Rattle.grammar_reading.specs.Reading.{Read, same, expect, all_read}
 use Rattle.grammar_reading.specs.Blocks.{name_at, body}
 use Rattle.grammar_reading.specs.HeadReading.{range_at, wide_at}
-use Rattle.grammar_reading.specs.UnitReading.{begins, many, many_by, word_at, word_begins, wides, more_pairs, totals_at, verdict_at, params, params_by, head_at, table_of, top_one, top_by, top, start_at, source_at, halves_at, printed_body, printed_at, rules_of, unit_by, unit_at}
+use Rattle.grammar_reading.specs.UnitReading.{begins, many, many_by, declaration_at, declaration_begins, wides, more_pairs, totals_at, verdict_at, params, params_by, head_at, table_of, top_one, top_by, top, start_at, source_at, halves_at, printed_body, printed_at, rules_of, unit_by, unit_at}
 use Rattle.grammar_reading.proofs.StepLemmas.{expect_self, number_self}
 use Rattle.grammar_reading.proofs.Complete.{shorter}
 use Rattle.grammar_reading.proofs.CompleteBlocks.{Begins, begins as stmt_begins, name_self, shorter_stmt, chain_again, chain_none, chain_heights, body_complete, inside_read}
@@ -98,20 +98,20 @@ ranges_many : {ts rest : List Lexeme} {xs : List (Word × ℤ × ℤ)} → AreRa
 ranges_many k.no_ranges ends = none ends
 ranges_many (k.more_ranges d others) ends = more (range_begins d) (range_read d) (shorter_range d) (ranges_many others ends)
 
-word_self : (x : Word) (n : ℕ) (ts : List Lexeme) → word_at (t.symbol s.Uint64 ∷ t.name x ∷ t.symbol s.Assign ∷ t.number n ∷ t.symbol s.Semicolon ∷ ts) ≡ Some ((x, n), ts)
-unfolding word_at
+word_self : (x : Word) (n : ℕ) (ts : List Lexeme) → declaration_at (t.symbol s.Uint64 ∷ t.name x ∷ t.symbol s.Assign ∷ t.number n ∷ t.symbol s.Semicolon ∷ ts) ≡ Some ((x, n), ts)
+unfolding declaration_at
 word_self x n ts = ap (option_and_then _) (expect_self s.Uint64 _) ∙ ap (option_and_then _) (name_self x _) ∙ ap (option_and_then _) (expect_self s.Assign _) ∙ ap (option_and_then _) (number_self n _) ∙ ap (option_and_then _) (expect_self s.Semicolon ts)
 
-word_first : (x : Word) (ts : List Lexeme) → word_begins (t.symbol s.Uint64 ∷ t.name x ∷ ts) ≡ true
-unfolding word_begins
+word_first : (x : Word) (ts : List Lexeme) → declaration_begins (t.symbol s.Uint64 ∷ t.name x ∷ ts) ≡ true
+unfolding declaration_begins
 word_first x ts = ap (λ (o : Option (List Lexeme)). is_some (option_and_then name_at o)) (expect_self s.Uint64 (t.name x ∷ ts)) ∙ ap is_some (name_self x ts)
 
 -- no word without `uint64_t`
-no_word : (ts : List Lexeme) → expect s.Uint64 ts ≡ None → word_begins ts ≡ false
-unfolding word_begins
+no_word : (ts : List Lexeme) → expect s.Uint64 ts ≡ None → declaration_begins ts ≡ false
+unfolding declaration_begins
 no_word ts e = ap (λ (o : Option (List Lexeme)). is_some (option_and_then name_at o)) e
 
-words_many : {ts rest : List Lexeme} {xs : List (Word × ℕ)} → AreWords ts xs rest → word_begins rest ≡ false → Many word_at word_begins ts xs rest
+words_many : {ts rest : List Lexeme} {xs : List (Word × ℕ)} → AreWords ts xs rest → declaration_begins rest ≡ false → Many declaration_at declaration_begins ts xs rest
 words_many k.no_words ends = none ends
 words_many (k.more_words {ts = ts} x n others) ends = more (word_first x _) (word_self x n ts) (omega arith) (words_many others ends)
 
@@ -135,8 +135,8 @@ verdict_read [] rest = ap (option_and_then _) (expect_self s.Return _) ∙ ap (o
 verdict_read (x ∷ xs) rest =
     ap (option_and_then _) (expect_self s.Return _) ∙ ap (option_and_then _) (ap (option_and_then _) (fixed_self (pair_tokens 0) _) ∙ pairs_read 1 xs (t.symbol s.Semicolon ∷ rest)) ∙ expect_self s.Semicolon rest
 
-wide_no_word : {ts rest : List Lexeme} {x : Word} → IsWide ts x rest → word_begins ts ≡ false
-unfolding expect same word_begins
+wide_no_word : {ts rest : List Lexeme} {x : Word} → IsWide ts x rest → declaration_begins ts ≡ false
+unfolding expect same declaration_begins
 wide_no_word (h.wide x) = refl
 
 -- ---- where the top level ends
@@ -151,15 +151,15 @@ verdict_ends (x ∷ xs) rest = at_verdict
 
 -- what the top level doesn't begin with
 abbrev Fronts : List Lexeme → Type 0
-Fronts ts = (expect s.Else ts ≡ None) × (word_begins ts ≡ false) × (begins s.Unsigned ts ≡ false)
+Fronts ts = (expect s.Else ts ≡ None) × (declaration_begins ts ≡ false) × (begins s.Unsigned ts ≡ false)
 
 ends_fronts : {ts : List Lexeme} → Ends ts → Fronts ts
-unfolding expect same word_begins
+unfolding expect same declaration_begins
 ends_fronts at_begin = (refl, refl, refl)
 ends_fronts at_verdict = (refl, refl, refl)
 
 table_fronts : {p : Bool} {m : ℕ} {ts rest : List Lexeme} {u : PlainStmt} → IsTable p m ts u rest → Fronts ts
-unfolding expect same word_begins name_at
+unfolding expect same declaration_begins name_at
 table_fronts (h.made x d) = (refl, refl, refl)
 
 stmt_fronts : (ts : List Lexeme) → Begins ts → Fronts ts
@@ -174,8 +174,8 @@ table_begins : {p : Bool} {m : ℕ} {ts rest : List Lexeme} {u : PlainStmt} → 
 unfolding expect same
 table_begins (h.made x d) = (refl, refl, refl)
 
-block_fronts : {p : Bool} {m : ℕ} {ts rest : List Lexeme} {us : PlainStmts} → IsStmts p m ts us (t.symbol s.CloseBrace ∷ rest) → word_begins ts ≡ false
-unfolding expect same word_begins
+block_fronts : {p : Bool} {m : ℕ} {ts rest : List Lexeme} {us : PlainStmts} → IsStmts p m ts us (t.symbol s.CloseBrace ∷ rest) → declaration_begins ts ≡ false
+unfolding expect same declaration_begins
 block_fronts b.end = refl
 block_fronts {ts = ts} (b.more d others) = no_word ts (stmt_begins d).4
 
@@ -210,14 +210,14 @@ module _ (c : Rules) where
       ∙ ap (option_and_then _) (expect_self s.CloseParen _) ∙ ap (option_and_then _) (expect_self s.OpenBrace rest)
 
   start_read : (type : Symbol) (f : Word) (ts inner second rest : List Lexeme) (rs : List (Word × ℤ × ℤ)) (ps : List PlainParam) (ws : List (Word × ℕ)) → begins s.Directive (t.symbol type ∷ t.name f ∷ t.symbol s.OpenParen ∷ inner) ≡ false
-      → AreRanges ts rs (t.symbol type ∷ t.name f ∷ t.symbol s.OpenParen ∷ inner) → AreParams c.printed c.limit inner ps (t.symbol s.CloseParen ∷ t.symbol s.OpenBrace ∷ second) → AreWords second ws rest → word_begins rest ≡ false
+      → AreRanges ts rs (t.symbol type ∷ t.name f ∷ t.symbol s.OpenParen ∷ inner) → AreParams c.printed c.limit inner ps (t.symbol s.CloseParen ∷ t.symbol s.OpenBrace ∷ second) → AreWords second ws rest → declaration_begins rest ≡ false
       → length ts < c.turns → start_at c type ts ≡ Some (record { ranges = rs; name = f; params = ps; words = ws }, rest)
   unfolding start_at
   start_read type f ts inner second rest rs ps ws ends dr dp dw stops turns =
       let less = shorter_ranges dr in
       let less2 = shorter_params dp in
       ap (option_and_then _) (many_read range_at (begins s.Directive) (ranges_many dr ends) c.turns [] turns) ∙ ap (option_and_then _) (expect_self type _)
-      ∙ ap (option_and_then _) (head_read f inner second ps dp (omega arith)) ∙ ap (option_and_then _) (many_read word_at word_begins (words_many dw stops) c.turns [] (omega arith))
+      ∙ ap (option_and_then _) (head_read f inner second ps dp (omega arith)) ∙ ap (option_and_then _) (many_read declaration_at declaration_begins (words_many dw stops) c.turns [] (omega arith))
 
   -- ---- the top level
 
@@ -281,7 +281,7 @@ no_preamble : {ts rest : List Lexeme} {xs : List (Word × ℤ × ℤ)} → AreRa
 no_preamble k.no_ranges e = e
 no_preamble (k.more_ranges d others) e = range_no_preamble d
 
-wides_no_word : {ts rest : List Lexeme} {xs : List Word} → AreWides ts xs rest → word_begins rest ≡ false → word_begins ts ≡ false
+wides_no_word : {ts rest : List Lexeme} {xs : List Word} → AreWides ts xs rest → declaration_begins rest ≡ false → declaration_begins ts ≡ false
 wides_no_word k.no_wides e = e
 wides_no_word (k.more_wides d others) e = wide_no_word d
 

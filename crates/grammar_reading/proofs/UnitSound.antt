@@ -18,7 +18,7 @@ use Rattle.grammar_reading.specs.declared.rules.Rules.{Rules}
 use Rattle.grammar_reading.specs.Reading.{Read, expect, number_at, all_read}
 use Rattle.grammar_reading.specs.Blocks.{name_at, inside}
 use Rattle.grammar_reading.specs.HeadReading.{range_at, param_at, wide_at, table_at, fixed}
-use Rattle.grammar_reading.specs.UnitReading.{begins, many, many_by, ranges, word_at, word_begins, words, wides, more_pairs, totals_at, verdict_at, params, params_by, head_at, stmt_of, table_of, top_one, top_by, top, Start, start_at, source_at, halves_at, printed_body, printed_at, rules_of, unit_by, unit_at}
+use Rattle.grammar_reading.specs.UnitReading.{begins, many, many_by, ranges, declaration_at, declaration_begins, words, wides, more_pairs, totals_at, verdict_at, params, params_by, head_at, stmt_of, table_of, top_one, top_by, top, Start, start_at, source_at, halves_at, printed_body, printed_at, rules_of, unit_by, unit_at}
 use Rattle.grammar_reading.proofs.StepLemmas.{bind_is, expect_is, number_is}
 use Rattle.grammar_reading.proofs.SoundBlocks.{name_is, simple_sound, body_sound, inside_is_stmts}
 use Rattle.grammar_reading.proofs.CompleteBlocks.{chain_again, chain_none, chain_heights}
@@ -50,8 +50,8 @@ module _ {A : Type 0} (part : List Lexeme → Read A) (another : List Lexeme →
 range_more : (ts after rest : List Lexeme) (x : Word × ℤ × ℤ) (xs : List (Word × ℤ × ℤ)) → range_at ts ≡ Some (x, after) → AreRanges after xs rest → AreRanges ts (x ∷ xs) rest
 range_more ts after rest x xs h d = k.more_ranges (range_sound ts after x h) d
 
-word_more : (ts after rest : List Lexeme) (x : Word × ℕ) (xs : List (Word × ℕ)) → word_at ts ≡ Some (x, after) → AreWords after xs rest → AreWords ts (x ∷ xs) rest
-unfolding word_at
+word_more : (ts after rest : List Lexeme) (x : Word × ℕ) (xs : List (Word × ℕ)) → declaration_at ts ≡ Some (x, after) → AreWords after xs rest → AreWords ts (x ∷ xs) rest
+unfolding declaration_at
 word_more ts after rest x xs h d =
     let (t1, h1, h2) = bind_is _ (expect s.Uint64 ts) (x, after) h in
     let (y, h3, h4) = bind_is _ (name_at t1) (x, after) h2 in
@@ -72,7 +72,7 @@ ranges_sound : (n : ℕ) (ws : List (Word × ℤ × ℤ)) (ts rest : List Lexeme
 ranges_sound = many_are range_at (begins s.Directive) AreRanges (λ rest. k.no_ranges) range_more
 
 words_sound : (n : ℕ) (ws : List (Word × ℕ)) (ts rest : List Lexeme) → words n [] ts ≡ Some (ws, rest) → AreWords ts ws rest
-words_sound = many_are word_at word_begins AreWords (λ rest. k.no_words) word_more
+words_sound = many_are declaration_at declaration_begins AreWords (λ rest. k.no_words) word_more
 
 wides_sound : (n : ℕ) (ws : List Word) (ts rest : List Lexeme) → wides n [] ts ≡ Some (ws, rest) → AreWides ts ws rest
 wides_sound = many_are wide_at (begins s.Unsigned) AreWides (λ rest. k.no_wides) wide_more

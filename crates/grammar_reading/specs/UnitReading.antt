@@ -37,8 +37,8 @@ abbrev pub ranges : ℕ → List (Word × ℤ × ℤ) → List Lexeme → Read (
 ranges = many range_at (begins s.Directive)
 
 -- uint64_t x = n;
-unfoldable pub word_at : List Lexeme → Read (Word × ℕ)
-word_at ts = do
+unfoldable pub declaration_at : List Lexeme → Read (Word × ℕ)
+declaration_at ts = do
   t1 ← expect s.Uint64 ts
   (x, t2) ← name_at t1
   t3 ← expect s.Assign t2
@@ -47,11 +47,11 @@ word_at ts = do
   Some ((x, n), rest)
 
 -- A table begins with `uint64_t` too, and goes on with `*`.
-unfoldable pub word_begins : List Lexeme → Bool
-word_begins ts = is_some (expect s.Uint64 ts >>= λ rest. name_at rest)
+unfoldable pub declaration_begins : List Lexeme → Bool
+declaration_begins ts = is_some (expect s.Uint64 ts >>= λ rest. name_at rest)
 
 abbrev pub words : ℕ → List (Word × ℕ) → List Lexeme → Read (List (Word × ℕ))
-words = many word_at word_begins
+words = many declaration_at declaration_begins
 
 abbrev pub wides : ℕ → List Word → List Lexeme → Read (List Word)
 wides = many wide_at (begins s.Unsigned)
