@@ -2,7 +2,8 @@
 use Rattle.std.specs.Prelude.{ℕ, suc, ◌^◌, Bool, true, false, not, ◌&&◌, ◌||◌, if◌then◌else◌, nat_eq, List, [], ◌∷◌, ◌++◌, map, ℤ, pos, int_lt, bytes_eq}
 use Rattle.std.specs.List.{list_all, list_any}
 use Rattle.c_tree.specs.Plain.{Word, PlainExpr, lit, var, cell, un, bin, cast, test, umin, umax, least, greatest, widen, big, PlainExprs, no_exprs, more_exprs, PlainParam, int_param, array_param, PlainUnit}
-use Rattle.acceptance.specs.Items.{Condition, Scope, scope_of, is_among, is_int, is_param, param_name, is_scalar, is_known}
+use Rattle.c_tree.specs.Names.{is_among}
+use Rattle.acceptance.specs.Items.{Condition, Scope, scope_of, is_int, is_param, param_name, is_scalar, is_known}
 use Rattle.acceptance.specs.Affine.{is_affine, has_small_terms, holds_throughout, lies_in, Intervals, interval, is_narrow}
 
 abbrev pub list_of : PlainExprs → List PlainExpr

@@ -2,6 +2,7 @@
 use Rattle.std.specs.Prelude.{ℕ, Bool, false, ◌||◌, ◌&&◌, not, List, [], ◌∷◌, ◌++◌, bytes_eq}
 use Rattle.std.specs.List.{list_all}
 use Rattle.c_tree.specs.Plain.{Word, PlainExpr, PlainParam, int_param, array_param, PlainStmt, loop, choice, assign, table, begin, check, verdict, PlainStmts, no_stmts, more_stmts, PlainUnit}
+use Rattle.c_tree.specs.Names.{is_among}
 use Rattle.c_tree.specs.declared.expr.Rel.{Rel}
 
 -- a loop around an item
@@ -64,10 +65,6 @@ scope_of u ls ts = record { params = u.params; words = u.words; wides = u.wides;
 
 abbrev pub scope_at : PlainUnit → Item → Scope
 scope_at u i = scope_of u i.loops i.tables
-
-abbrev pub is_among : List Word → Word → Bool
-is_among [] x = false
-is_among (y ∷ ys) x = bytes_eq y x || is_among ys x
 
 abbrev pub is_loop : List Loop → Word → Bool
 is_loop [] x = false

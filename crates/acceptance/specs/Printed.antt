@@ -2,13 +2,14 @@
 use Rattle.std.specs.Prelude.{◌≡◌, ℕ, suc, Bool, true, false, not, ◌&&◌, ◌||◌, if◌then◌else◌, nat_eq, nat_lt, List, [], ◌∷◌, length, Option, Some, None, IsTrue, bytes_eq, codes}
 use Rattle.std.specs.List.{list_all}
 use Rattle.c_tree.specs.Plain.{Word, PlainExpr, lit, var, cell, un, bin, cast, test, umin, umax, least, greatest, widen, big, PlainExprs, no_exprs, more_exprs, PlainTest, PlainStmt, loop, choice, assign, table, begin, check, verdict, PlainStmts, no_stmts, more_stmts, PlainParam, int_param, array_param, PlainUnit}
+use Rattle.c_tree.specs.Names.{is_among}
 use Rattle.c_tree.specs.Kinds.{Kind, kind, join, is_signed, is_word}
 use Rattle.c_tree.specs.Run.{numbered}
 use Rattle.c_tree.specs.declared.expr.UnOp.{UnOp}
 use Rattle.c_tree.specs.declared.expr.UnOp.TheVariants.{Neg, Inv}
 use Rattle.c_tree.specs.declared.expr.BinOp.{BinOp}
 use Rattle.c_tree.specs.declared.expr.BinOp.TheVariants.{Add, Sub, Mul, Div, Rem, Shl, Shr}
-use Rattle.acceptance.specs.Items.{Condition, holds_nowhere, Scope, scope_at, is_among, is_array, is_scalar, is_declared, is_known, is_signed_name}
+use Rattle.acceptance.specs.Items.{Condition, holds_nowhere, Scope, scope_at, is_array, is_scalar, is_declared, is_known, is_signed_name}
 use Rattle.acceptance.specs.Head.{list_of, uses_known, extents_known, head_names_twice, bad_range, extent_not_affine, extent_terms_too_large, extent_too_wide, extent_not_positive}
 
 -- ---- names

@@ -3,8 +3,9 @@ use Rattle.std.proofs.Common.{◌≡◌, ℕ, ◌<◌, true, false, ◌||◌, Li
 use Rattle.std.specs.Prelude.{bytes_eq}
 use Rattle.std.proofs.lemmas.Bool.{or_from, or_left, or_right, or_parts, false_from_ne_true}
 use Rattle.c_tree.specs.Plain.{Word, PlainParam, int_param, array_param}
+use Rattle.c_tree.specs.Names.{is_among}
 use Rattle.instrumentation.specs.Names.{register, result, count, definition_total, use_total, coordinate, pass_variable, active, counter}
-use Rattle.acceptance.specs.Items.{Loop, Scope, is_among, is_loop, is_int, is_array, is_param, is_scalar, is_declared, is_known}
+use Rattle.acceptance.specs.Items.{Loop, Scope, is_loop, is_int, is_array, is_param, is_scalar, is_declared, is_known}
 use Rattle.acceptance.specs.Printed.{dimensions}
 use Rattle.acceptance_laws.proofs.Names.{same_word-true}
 use Rattle.acceptance_laws.proofs.Expressions.{IsWordAt, IsWideAt, IsSignedAt}

@@ -3,11 +3,12 @@ use Rattle.std.proofs.Common.{◌≡◌, ◌⊎◌, ℕ, Bool, true, false, ◌|
 use Rattle.std.specs.Prelude.{bytes_eq}
 use Rattle.std.proofs.lemmas.Bool.{and_from, or_left, or_right, cases_Bool}
 use Rattle.c_tree.specs.Plain.{Word, PlainExpr, lit, var, cell, un, bin, cast, test, umin, umax, least, greatest, widen, big, PlainExprs, no_exprs, more_exprs, PlainParam, int_param, array_param}
+use Rattle.c_tree.specs.Names.{is_among}
 use Rattle.c_tree.specs.Kinds.{Kind, either, signed_kind, word_kind, join, is_signed, is_word}
 use Rattle.c_tree.specs.declared.expr.UnOp.{UnOp}
 use Rattle.c_tree.specs.declared.expr.BinOp.{BinOp}
 use Rattle.c_tree.specs.declared.expr.BinOp.TheVariants.{Add, Sub, Mul}
-use Rattle.acceptance.specs.Items.{Scope, is_among, is_loop, is_int, is_array, is_param, is_scalar, is_declared, is_known, is_signed_name}
+use Rattle.acceptance.specs.Items.{Scope, is_loop, is_int, is_array, is_param, is_scalar, is_declared, is_known, is_signed_name}
 use Rattle.acceptance.specs.Head.{list_of, uses_known, all_use_known}
 use Rattle.acceptance.specs.Printed.{dimensions, fits_dimensions, all_fit_dimensions, has_good_side, literals_fit, all_literals_fit, is_signed_un, is_signed_op, is_signed_expr, kind_of, is_word_expr, are_subscripts, is_wide_expr}
 

@@ -4,10 +4,11 @@ use Rattle.std.specs.Prelude.{bytes_eq}
 use Rattle.std.specs.List.{list_all}
 use Rattle.std.proofs.lemmas.Bool.{and_from, and_parts, or_from, or_left, or_right}
 use Rattle.c_tree.specs.Plain.{Word, PlainExpr, var, cell, PlainExprs, PlainTest, loop, choice, assign, verdict, PlainStmts}
+use Rattle.c_tree.specs.Names.{is_among}
 use Rattle.c_tree.specs.Kinds.{join, is_word}
 use Rattle.c_tree.specs.declared.expr.Rel.{Rel}
 use Rattle.c_tree.specs.declared.expr.BinOp.{BinOp}
-use Rattle.acceptance.specs.Items.{Scope, is_among, is_known}
+use Rattle.acceptance.specs.Items.{Scope, is_known}
 use Rattle.acceptance.specs.Printed.{dimensions, total_names_from, tests_use_known, tests_fit, fits_dimensions, names_fit, literals_fit, kind_of, is_test, is_wide_op, is_wide_expr}
 use Rattle.acceptance_laws.proofs.Expressions.{IsWordAt, IsWideAt, IsGood, IsIndex, IsCellAt, IsData, IsWide, good_var, word_known, wide_known, index_good, index_signed, index_no_word, join_no_word, cell_good, data_good, data_word}
 use Rattle.acceptance_laws.proofs.Fine.{IsFine}

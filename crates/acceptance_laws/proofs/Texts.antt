@@ -2,6 +2,7 @@
 use Rattle.std.proofs.Common.{◌≡◌, ℕ, ◌+◌, ◌<◌, ◌≤◌, true, List, [], ◌∷◌, ◌++◌, arith}
 use Rattle.std.specs.List.{list_all}
 use Rattle.c_tree.specs.Plain.{Word, PlainStmt, loop, choice, assign, table, begin, check, verdict, PlainStmts, no_stmts, more_stmts, PlainParam}
+use Rattle.c_tree.specs.Names.{is_among}
 use Rattle.c_tree.specs.Trees.{stmts_of}
 use Rattle.instrumentation.specs.Names.{number_in}
 use Rattle.c_tree.specs.Instances.{sites, sites_all}
@@ -9,7 +10,7 @@ use Rattle.instrumentation.specs.Body.{full, instrument, instrument_all, registe
 use Rattle.instrumentation.specs.Passes.{write_pieces_all, piece_at, cell_piece}
 use Rattle.instrumentation.specs.Prologue.{prologue_text}
 use Rattle.instrumentation.specs.Guarded.{arrays_with_extents, array_names, guarded_body}
-use Rattle.acceptance.specs.Items.{Loop, Scope, is_among}
+use Rattle.acceptance.specs.Items.{Loop, Scope}
 use Rattle.acceptance.specs.Printed.{total_names_from, names_fit}
 use Rattle.acceptance_laws.proofs.Fine.{inside, TextFine, fine_join}
 use Rattle.acceptance_laws.proofs.Statements.{choice_fine, loop_fine, verdict_fine}

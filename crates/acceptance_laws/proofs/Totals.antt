@@ -4,9 +4,10 @@ use Rattle.std.specs.Prelude.{bytes_eq}
 use Rattle.std.specs.List.{list_all}
 use Rattle.std.proofs.lemmas.Bool.{and_from, or_from, or_left, or_right, cases_Bool}
 use Rattle.c_tree.specs.Plain.{Word, PlainParam, int_param, array_param}
+use Rattle.c_tree.specs.Names.{is_among}
 use Rattle.instrumentation.specs.Names.{count, definition_total, use_total, number_from}
 use Rattle.instrumentation.specs.Guarded.{array_names, total_names}
-use Rattle.acceptance.specs.Items.{is_among, is_array}
+use Rattle.acceptance.specs.Items.{is_array}
 use Rattle.acceptance.specs.Printed.{total_names_from}
 use Rattle.acceptance_laws.proofs.Names.{same_word, use_apart, definition_apart, use_definition, definition_use}
 use Rattle.acceptance_laws.proofs.Expressions.{or_weaker}

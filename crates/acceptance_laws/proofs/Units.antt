@@ -4,9 +4,10 @@ use Rattle.std.specs.Prelude.{bytes_eq, nat_eq}
 use Rattle.std.specs.List.{list_all}
 use Rattle.std.proofs.lemmas.Bool.{and_from, or_from, or_left, or_right, false_from_ne_true}
 use Rattle.c_tree.specs.Plain.{Word, PlainParam, int_param, array_param}
+use Rattle.c_tree.specs.Names.{is_among}
 use Rattle.instrumentation.specs.Names.{register, result, count, definition_total, use_total, coordinate, pass_variable, active, counter, function_name, number_in}
 use Rattle.instrumentation.specs.Guarded.{array_names, own_words, total_names}
-use Rattle.acceptance.specs.Items.{Scope, is_among, is_int, param_name, is_param, is_scalar, is_declared}
+use Rattle.acceptance.specs.Items.{Scope, is_int, param_name, is_param, is_scalar, is_declared}
 use Rattle.acceptance.specs.Printed.{dimensions, total_names_from}
 use Rattle.acceptance_laws.proofs.Names.{own, same_word, apart_as, apart_as', register_not_own, result_not_own, active_not_own, counter_not_own, count_not_own, definition_not_own, use_not_own}
 use Rattle.acceptance_laws.proofs.Expressions.{IsWideAt, int_param_of, flat_fits}

@@ -18,7 +18,8 @@ use Rattle.balance_cli.specs.declared.stages.Stop.TheVariants.{ReadFault, TooLon
 use Rattle.balance_cli.specs.declared.status.Status.{Status}
 use Rattle.balance_cli.specs.declared.status.Status.TheVariants as status
 use Rattle.balance_cli.proofs.Plans.{asked_nothing, form_of_accepted}
-use Rattle.balance_cli.proofs.Endings.{defined_end, fault_end, asked_end, IsCalmFor, IsJudgedOnce, HasFrames, determined}
+use Rattle.balance_cli.proofs.TextLaws.{TextLaws}
+use Rattle.balance_cli.proofs.Endings.{defined_end, fault_end, asked_end, IsCalmFor, HasFrames, determined}
 
 done_so : (order : Order) (m : Met) (f : Finish) → IsDone order f m → Cause (Some order) m (finish_status f)
 done_so order m finish.Done done = done
@@ -177,7 +178,7 @@ calm_shelf (Err (SourceRefused refusal)) m calm = calm
 calm_shelf (Err (DataRefused why)) m calm = calm
 calm_shelf (Err NoMemory) m calm = calm
 
-pub complete : IsJudgedOnce → HasOneAnswer → (order : Option Order) (m : Met) (ends : Status) → IsCall order m ends → EndsAsDefined order m ends
+pub complete : TextLaws → HasOneAnswer → (order : Option Order) (m : Met) (ends : Status) → IsCall order m ends → EndsAsDefined order m ends
 complete once read_once None m ends called = tt
 complete once read_once (Some order) m ends called = λ files ideal told defined calm.
     let follows = called.answer.follows in

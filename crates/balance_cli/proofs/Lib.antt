@@ -8,3 +8,4 @@ pub mod Plans
 pub mod Powers
 pub mod Shown
 pub mod Unchecked
+pub mod TextLaws

@@ -10,6 +10,7 @@ mod frame;
 mod memory;
 mod name;
 mod ops;
+mod printed_text;
 mod refusal;
 mod reserved_words;
 mod run;
@@ -26,6 +27,7 @@ pub use frame::{ArrayCells, ArrayInfo, Arrays, Cells, Frame, Inputs, Ints, Site}
 pub use memory::OutOfMemory;
 pub use name::{Name, NameList};
 pub use ops::{shifted_left, shifted_right};
+pub use printed_text::{is_printed, preamble};
 pub use refusal::{Counted, Refusal};
 pub use reserved_words::{is_reserved, is_word, is_word_byte};
 pub use run::{ArrayNumbers, Ended, Flip, Lengths, Totals, Verdict};

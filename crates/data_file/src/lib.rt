@@ -32,12 +32,12 @@ pub fn read_data(alloc: Global, f: &Frame, text: &[u8]) -> Result<Inputs, DataRe
     ensures { Answers f.now text.now result }
 {
     let inputs = lines::read_inputs(alloc, f, text)?;
-    if let Some(parameter) = check::first_outside(f, inputs.ints.as_slice()) {
+    if let Some(parameter) = check::first_outside(f, &inputs) {
         return Err(DataRefusal::OutOfRange {
             parameter: parameter as u64,
         });
     }
-    if let Some(array) = check::first_too_large(f, inputs.ints.as_slice()) {
+    if let Some(array) = check::first_too_large(f, &inputs) {
         return Err(DataRefusal::TooLarge {
             array: array as u64,
         });

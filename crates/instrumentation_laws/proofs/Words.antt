@@ -1,5 +1,5 @@
 -- Every value that a source's run reads and writes is a word, under every fault of a bit below 64.
-use Rattle.std.proofs.Common.{◌≡◌, ℕ, zero, suc, ◌+◌, ◌/◌, ◌%◌, ◌^◌, ◌<◌, Bool, true, false, cond, ◌&&◌, if◌then◌else◌, List, [], ◌∷◌, ◌++◌, length, refl, sym, subst, arith, ℤ, Option, Some, None, nat_eq, nat_lt}
+use Rattle.std.proofs.Common.{◌≡◌, ℕ, zero, suc, ◌+◌, ◌/◌, ◌%◌, ◌^◌, ◌<◌, Bool, true, false, cond, ◌&&◌, if◌then◌else◌, List, [], ◌∷◌, ◌++◌, length, sym, subst, arith, ℤ, Option, Some, None, nat_eq, nat_lt}
 use Rattle.std.proofs.lemmas.Bool.{cond_both}
 use Rattle.std.proofs.lemmas.Nat.{xor_lt, or_lt, pow_below}
 use Rattle.std.specs.List.{AllByRecursion}
@@ -9,6 +9,7 @@ use Rattle.std.specs.Prelude.{bytes_eq}
 use Rattle.c_tree.specs.Plain.{Word, PlainExpr, lit, var, cell, un, bin, cast, test, umin, umax, least, greatest, widen, big, PlainExprs, PlainStmt, loop, choice, assign, table, begin, check, verdict, PlainStmts, no_stmts, more_stmts}
 use Rattle.c_tree.specs.Kinds.{is_signed}
 use Rattle.c_tree.specs.Values.{Vars, signed, as_word, word_un, word_bin, word_holds, as_bit, kind, loop_values}
+use Rattle.c_tree.proofs.WordValues.{as_word_fits}
 use Rattle.c_tree.specs.Arrays.{Array, Memory, stored, same_cell, is_within}
 use Rattle.c_tree.specs.Fault.{Upset, inverted, disturbed}
 use Rattle.c_tree.specs.Run.{Event, State, goes_on, ends, outside, Run, ◌>>◌, and_then, give, Scope, loads, stores, within, word, set_word, turn, over, exec, exec_all, assigned}
@@ -125,17 +126,17 @@ module _ (arrays : List Array) (number : Word → ℕ) (fault : Option Upset) (b
   two_fit f p q s small h g = going_then (Unit {0}) Value Value (p s) (λ x t. and_then (q t) (λ y t. goes_on (f x y) t)) h
       (λ x t r. going_then (Unit {0}) Value Value (q t) (λ y t. goes_on (f x y) t) (g t r.1) (λ y t k. (small x y r.0 k.0, k.1)))
 
-  cast_fits : (b : Bool) (z : ℤ) (p : Run ℕ) (s : State) → (b ≡ true → as_word z < 2 ^ 64) → IsFit s → IfGoing (Unit {0}) Value (p s) → IfGoing (Unit {0}) Value ((if b then give (as_word z) else p) s)
-  cast_fits true z p s w h g = (w refl, h)
-  cast_fits false z p s w h g = g
+  cast_fits : (b : Bool) (z : ℤ) (p : Run ℕ) (s : State) → IsFit s → IfGoing (Unit {0}) Value (p s) → IfGoing (Unit {0}) Value ((if b then give (as_word z) else p) s)
+  cast_fits true z p s h g = (as_word_fits z, h)
+  cast_fits false z p s h g = g
 
-  pub expr_fits : (e : PlainExpr) (vs : Vars) (s : State) → IsData arrays number e vs → GivesWord e vs → IsFit s → IfGoing (Unit {0}) Value (word sc e vs s)
+  pub expr_fits : (e : PlainExpr) (vs : Vars) (s : State) → IsData arrays number e vs → GivesWord e → IsFit s → IfGoing (Unit {0}) Value (word sc e vs s)
   expr_fits (lit n) vs s d l h = (l, h)
   expr_fits (var x) vs s d l h = (h.words x, h)
   expr_fits (cell x at) vs s d l h = rw (cell_is arrays number [] fault x at vs s d.0 d.1) (load_fits d.0.array (signed_all at vs) s h)
   expr_fits (un op a) vs s d l h = going_then (Unit {0}) Value Value (word sc a vs s) (λ x t. goes_on (word_un op x) t) (expr_fits a vs s d l h) (λ x t r. (un_fits op x r.0, r.1))
   expr_fits (bin op a b) vs s d l h = two_fit (word_bin op) (word sc a vs) (word sc b vs) s (bin_fits op) (expr_fits a vs s d.0 l.0 h) (λ t k. expr_fits b vs t d.1 l.1 k)
-  expr_fits (cast a) vs s d l h = cast_fits (is_signed (kind vs a)) (signed a vs) (word sc a vs) s l.1 h (expr_fits a vs s d.0 l.0 h)
+  expr_fits (cast a) vs s d l h = cast_fits (is_signed (kind vs a)) (signed a vs) (word sc a vs) s h (expr_fits a vs s d.0 l h)
   expr_fits (test rel a b) vs s d l h = two_fit (λ x y. as_bit (word_holds rel x y)) (word sc a vs) (word sc b vs) s (λ x y p q. bit_fits (word_holds rel x y)) (expr_fits a vs s d.0 l.0 h) (λ t k. expr_fits b vs t d.1 l.1 k)
   expr_fits (umin a b) vs s d l h = two_fit (λ x y. if nat_lt x y then x else y) (word sc a vs) (word sc b vs) s (λ x y p q. chosen_fits (nat_lt x y) x y p q) (expr_fits a vs s d.0 l.0 h) (λ t k. expr_fits b vs t d.1 l.1 k)
   expr_fits (umax a b) vs s d l h = two_fit (λ x y. if nat_lt x y then y else x) (word sc a vs) (word sc b vs) s (λ x y p q. chosen_fits (nat_lt x y) y x q p) (expr_fits a vs s d.0 l.0 h) (λ t k. expr_fits b vs t d.1 l.1 k)
@@ -157,7 +158,7 @@ module _ (arrays : List Array) (number : Word → ℕ) (fault : Option Upset) (b
   cell_data x at None e vs h d = d
   cell_data x at (Some op) e vs h d = (h, d)
 
-  assign_fits : (t : PlainExpr) (op : Option BinOp) (e : PlainExpr) (vs : Vars) (s : State) → IsTarget arrays number t vs → IsData arrays number e vs → GivesWord (full t op e) vs → IsFit s → IfGoing (Unit {0}) Stays (assigned sc t op e vs s)
+  assign_fits : (t : PlainExpr) (op : Option BinOp) (e : PlainExpr) (vs : Vars) (s : State) → IsTarget arrays number t vs → IsData arrays number e vs → GivesWord (full t op e) → IsFit s → IfGoing (Unit {0}) Stays (assigned sc t op e vs s)
   assign_fits (var x) op e vs s t d l h =
       rw (var_assigned arrays fault x op e vs s)
       (going_then (Unit {0}) Value Stays (word sc (full (var x) op e) vs s) (set_word x) (expr_fits (full (var x) op e) vs s (var_data x op e vs t d) l h)

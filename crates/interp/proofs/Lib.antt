@@ -1,4 +1,3 @@
-pub mod Shifts
 pub mod Turns
 pub mod StandsSame
 pub mod StandsCells
@@ -6,6 +5,7 @@ pub mod StandsAccess
 pub mod StandsNames
 pub mod StandsSigned
 pub mod StandsWords
+pub mod SignedSubscripts
 pub mod StandsWides
 pub mod StandsSteps
 pub mod StandsTrees

@@ -5,6 +5,7 @@ pub mod Machine
 pub mod Signed
 pub mod Meaning
 pub mod Steps
+pub mod Subscripts
 pub mod Shown
 pub mod Heads
 pub mod Started

@@ -51,6 +51,11 @@ abbrev pub Gives : {A B : Type 0} → (A → B) → Result A Stop → Machine �
 Gives view (Ok a) m r = r ≡ went (view a) m
 Gives view (Err e) m r = Stops e m r
 
+-- the same of a function that answers None where it stops, and tells why on the side
+abbrev pub Tells : {A B : Type 0} → (A → B) → Option A → Stop → Machine → Reached B → Type 0
+Tells view (Some a) e m r = r ≡ went (view a) m
+Tells view None e m r = Stops e m r
+
 -- ---- counters
 
 -- a counter, which stays at its last value

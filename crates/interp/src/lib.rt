@@ -13,10 +13,12 @@ mod names;
 mod places;
 mod resolve;
 mod resolve_steps;
+mod scene;
 mod signed;
 mod slots;
 mod start;
 mod stop;
+mod subscripts;
 mod values;
 mod words;
 

@@ -1,7 +1,7 @@
 //! The value of a signed expression.
 
 ghost use Rattle.std.specs.Prelude.{◌≡◌, neg_ℤ};
-ghost use Rattle.std.specs.Int.{w64, int_wrap};
+ghost use Rattle.std.specs.Int.{w64, int_wrap, int_min, int_max};
 ghost use Rattle.c_tree.specs.Values as values;
 ghost use Rattle.c_tree.specs.Values.{signed_holds};
 ghost use Rattle.interp.specs.Values.{values_in};
@@ -28,21 +28,53 @@ fn negated(a: i64) -> i64
     a.wrapping_neg()
 }
 
-/// Modulo 2^64 in two's complement.
-pub fn signed(e: &SignedExpr, values: &Values<'_>) -> i64
+// Out of line, so that the code for a single value stays short.
+#[inline(never)]
+fn lesser(a: i64, b: i64) -> i64
+    ensures { result ≡ int_min a b }
+{
+    a.min(b)
+}
+
+#[inline(never)]
+fn greater(a: i64, b: i64) -> i64
+    ensures { result ≡ int_max a b }
+{
+    a.max(b)
+}
+
+/// The value of a signed expression of any form.
+fn any_signed(e: &SignedExpr, values: &Values<'_>) -> i64
     ensures { result ≡ signed_of e.now (values_in values.now) }
 {
     match e {
         SignedExpr::Number(n) => *n,
         SignedExpr::Value(number) => nth(values, *number),
-        SignedExpr::Negated(a) => negated(signed(a, values)),
-        SignedExpr::Combined(op, a, b) => combined(*op, signed(a, values), signed(b, values)),
-        SignedExpr::Least(a, b) => signed(a, values).min(signed(b, values)),
-        SignedExpr::Greatest(a, b) => signed(a, values).max(signed(b, values)),
+        SignedExpr::Negated(a) => negated(any_signed(a, values)),
+        SignedExpr::Combined(op, a, b) => {
+            combined(*op, any_signed(a, values), any_signed(b, values))
+        }
+        SignedExpr::Offset(op, number, n) => combined(*op, nth(values, *number), *n),
+        SignedExpr::Least(a, b) => lesser(any_signed(a, values), any_signed(b, values)),
+        SignedExpr::Greatest(a, b) => greater(any_signed(a, values), any_signed(b, values)),
+    }
+}
+
+/// The value of a signed expression, modulo 2^64 in two's complement. The forms of most subscripts and bounds
+/// are in line.
+#[inline(always)]
+pub fn signed(e: &SignedExpr, values: &Values<'_>) -> i64
+    ensures { result ≡ signed_of e.now (values_in values.now) }
+{
+    match e {
+        SignedExpr::Value(number) => nth(values, *number),
+        SignedExpr::Offset(op, number, n) => combined(*op, nth(values, *number), *n),
+        _ => any_signed(e, values),
     }
 }
 
 /// Whether two signed values compare so.
+#[inline(always)]
 pub fn compare(rel: Rel, a: i64, b: i64) -> bool
     ensures { result ≡ signed_holds rel a b }
 {

@@ -65,13 +65,13 @@ module _ (arrays : List Array) (numbers : Word → ℕ) (a x : Word) (vs : Vars)
     sum_regular e (item ∷ items) d = sum_regular (bin Add e (item_of a x item)) items (d, item_regular item)
 
 -- its values are words
-item_word : (a x : Word) (vs : Vars) (item : Item) → IsSmall item → GivesWord (item_of a x item) vs
-item_word a x vs (number n) h = h
-item_word a x vs (element o) h = tt
+item_word : (a x : Word) (item : Item) → IsSmall item → GivesWord (item_of a x item)
+item_word a x (number n) h = h
+item_word a x (element o) h = tt
 
-sum_word : (a x : Word) (vs : Vars) (e : PlainExpr) (items : List Item) → GivesWord e vs → AllByRecursion IsSmall items → GivesWord (sum_from a x e items) vs
-sum_word a x vs e [] g h = g
-sum_word a x vs e (item ∷ items) g h = sum_word a x vs (bin Add e (item_of a x item)) items (g, item_word a x vs item h.0) h.1
+sum_word : (a x : Word) (e : PlainExpr) (items : List Item) → GivesWord e → AllByRecursion IsSmall items → GivesWord (sum_from a x e items)
+sum_word a x e [] g h = g
+sum_word a x e (item ∷ items) g h = sum_word a x (bin Add e (item_of a x item)) items (g, item_word a x item h.0) h.1
 
 each_value : (P : ℤ → Type 0) (vals : List ℤ) → ((v : ℤ) → P v) → AllByRecursion P vals
 each_value P [] h = tt
@@ -178,7 +178,7 @@ module _ (l : OneLoop) (allowed : IsAllowed l) (n : ℤ) where
   values_are_words = (
     each_value (λ v. AllAssignWords (one_stmt (assign (cell_of l.array l.variable l.target) None (sum_from l.array l.variable (item_of l.array l.variable l.item) l.items))) (loop_vars v))
         (loop_values (signed (lit l.first) size_vars) Lt (signed (offset_of l.size l.last) size_vars))
-        (λ v. (sum_word l.array l.variable (loop_vars v) (item_of l.array l.variable l.item) l.items (item_word l.array l.variable (loop_vars v) l.item allowed.each.0) allowed.each.1, tt)),
+        (λ v. (sum_word l.array l.variable (item_of l.array l.variable l.item) l.items (item_word l.array l.variable l.item allowed.each.0) allowed.each.1, tt)),
     tt,
   )
 
