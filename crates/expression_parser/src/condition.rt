@@ -11,10 +11,9 @@ use crate::build::Built;
 use crate::error::ParseError;
 use crate::expression::{climb, close, expression, operand};
 use crate::steps::{after, front_rel, opens};
-use c_tree::{Expr, Rel, Tests};
-use grammar_reading::Rules;
 use crate::terminal::Terminal;
-use c_tree::Symbol;
+use c_tree::{Expr, Rel, Symbol, Tests};
+use grammar_reading::Rules;
 use sqlite_items::Items;
 use std::alloc::Global;
 
@@ -23,12 +22,12 @@ use std::alloc::Global;
 struct Found {
     held: usize,
     rel: Rel,
-    left: Built,
+    left: Box<Expr>,
 }
 
 #[tactic(auto, using(crate::proofs::Seeks::none_found))]
 fn seek<'s>(alloc: Global, c: Rules, depth: usize, count: usize, first: Built, text: &[u8], ts: &'s [Terminal]) -> Result<(Found, &'s [Terminal]), ParseError>
-    ensures { Gives (λ x. ((x.0.held, x.0.rel, t.expr x.0.left.tree), all_seen text.now x.1.now)) result (spec.seek c (spec.expr c depth) count (t.expr first.tree) (all_seen text.now ts.entry.now)) }
+    ensures { Gives (λ x. ((x.0.held, x.0.rel, t.expr x.0.left.value), all_seen text.now x.1.now)) result (spec.seek c (spec.expr c depth) count (t.expr first.tree.value) (all_seen text.now ts.entry.now)) }
 {
     let mut left = first;
     let mut rest = ts;
@@ -36,7 +35,7 @@ fn seek<'s>(alloc: Global, c: Rules, depth: usize, count: usize, first: Built, t
         let (a, behind) = climb(alloc, c, depth, 4, left, text, rest)?;
         if let Some((rel, second)) = front_rel(text, behind) {
             let held = count - turn;
-            return Ok((Found { held, rel, left: a }, second));
+            return Ok((Found { held, rel, left: a.tree }, second));
         }
         let (u, after) = close(alloc, c, depth, a, text, behind)?;
         left = u;
@@ -44,7 +43,7 @@ fn seek<'s>(alloc: Global, c: Rules, depth: usize, count: usize, first: Built, t
     }
     let (a, behind) = climb(alloc, c, depth, 4, left, text, rest)?;
     match front_rel(text, behind) {
-        Some((rel, second)) => Ok((Found { held: 0, rel, left: a }, second)),
+        Some((rel, second)) => Ok((Found { held: 0, rel, left: a.tree }, second)),
         None => Err(ParseError::Syntax(behind.len())),
     }
 }
@@ -58,7 +57,8 @@ fn compare<'s>(alloc: Global, c: Rules, text: &[u8], ts: &'s [Terminal]) -> Resu
     let (first, after) = operand(alloc, c, depth, text, inside)?;
     let (found, second) = seek(alloc, c, depth, count, first, text, after)?;
     let (b, rest) = expression(alloc, c, depth, 4, text, second)?;
-    Ok(((found.held, (found.rel, found.left.tree, b.tree)), rest))
+    let test = (found.rel, Box::into_inner(found.left), Box::into_inner(b.tree));
+    Ok(((found.held, test), rest))
 }
 
 /// As many of the open parentheses as close here.

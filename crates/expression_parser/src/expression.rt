@@ -5,23 +5,21 @@ ghost use Rattle.c_tree.specs.Plain.{PlainExpr};
 ghost use Rattle.c_tree.specs.Trees as t;
 ghost use Rattle.expression_parser.specs.Terminals.{all_seen, word_at};
 ghost use Rattle.c_tree.specs.Grammar.Expressions.{IsLow, limit};
-ghost use Rattle.grammar_reading.specs.Blocks as blocks;
 ghost use Rattle.grammar_reading.specs.Reading as spec;
 ghost use Rattle.expression_parser.specs.Outcome.{Gives};
 ghost use Rattle.expression_parser.specs.Two.{call_of};
 
-use crate::build::{self, Built, Row, Two};
+use crate::build::{self, Built, Row, Two, leaf, node};
 use crate::error::ParseError;
 use crate::steps::{after, expect, front_op, front_rel, level, limit, number, opens, paren};
-use c_tree::{Expr, UnOp};
-use grammar_reading::Rules;
 use crate::terminal::Terminal;
-use c_tree::Symbol;
+use c_tree::{Expr, Symbol, UnOp};
+use grammar_reading::Rules;
 use std::alloc::Global;
 
 #[tactic(auto, unfolding(grammar_reading::specs::Reading::whole))]
 fn whole(alloc: Global, c: Rules, text: &[u8], ts: &[Terminal]) -> Result<Built, ParseError>
-    ensures { Gives (λ x. t.expr x.tree) result (spec.whole c (all_seen text.now ts.now)) }
+    ensures { Gives (λ x. t.expr x.tree.value) result (spec.whole c (all_seen text.now ts.now)) }
 {
     let (u, rest) = expression(alloc, c, usize::from(c.limit), 1, text, ts)?;
     match rest {
@@ -34,7 +32,7 @@ fn whole(alloc: Global, c: Rules, text: &[u8], ts: &[Terminal]) -> Result<Built,
 #[cycle(parser)]
 #[tactic(auto, unfolding(grammar_reading::specs::Reading::expr))]
 pub fn expression<'s>(alloc: Global, c: Rules, depth: usize, low: u8, text: &[u8], ts: &'s [Terminal]) -> Result<(Built, &'s [Terminal]), ParseError>
-    ensures { Gives (λ x. (t.expr x.0.tree, all_seen text.now x.1.now)) result (spec.expr c depth low (all_seen text.now ts.entry.now)) }
+    ensures { Gives (λ x. (t.expr x.0.tree.value, all_seen text.now x.1.now)) result (spec.expr c depth low (all_seen text.now ts.entry.now)) }
 {
     if depth == 0 {
         return Err(ParseError::Syntax(ts.len()));
@@ -48,7 +46,7 @@ pub fn expression<'s>(alloc: Global, c: Rules, depth: usize, low: u8, text: &[u8
 #[cycle(parser)]
 #[tactic(auto, unfolding(grammar_reading::specs::Reading::close))]
 pub fn close<'s>(alloc: Global, c: Rules, depth: usize, left: Built, text: &[u8], ts: &'s [Terminal]) -> Result<(Built, &'s [Terminal]), ParseError>
-    ensures { Gives (λ x. (t.expr x.0.tree, all_seen text.now x.1.now)) result (spec.close c (spec.expr c depth) (t.expr left.tree) (all_seen text.now ts.entry.now)) }
+    ensures { Gives (λ x. (t.expr x.0.tree.value, all_seen text.now x.1.now)) result (spec.close c (spec.expr c depth) (t.expr left.tree.value) (all_seen text.now ts.entry.now)) }
 {
     let (u, behind) = climb(alloc, c, depth, 1, left, text, ts)?;
     let rest = expect(Symbol::CloseParen, text, behind)?;
@@ -57,7 +55,7 @@ pub fn close<'s>(alloc: Global, c: Rules, depth: usize, left: Built, text: &[u8]
 
 #[cycle(parser)]
 fn closes<'s>(alloc: Global, c: Rules, depth: usize, count: usize, first: Built, text: &[u8], ts: &'s [Terminal]) -> Result<(Built, &'s [Terminal]), ParseError>
-    ensures { Gives (λ x. (t.expr x.0.tree, all_seen text.now x.1.now)) result (spec.closes c (spec.expr c depth) count (t.expr first.tree) (all_seen text.now ts.entry.now)) }
+    ensures { Gives (λ x. (t.expr x.0.tree.value, all_seen text.now x.1.now)) result (spec.closes c (spec.expr c depth) count (t.expr first.tree.value) (all_seen text.now ts.entry.now)) }
 {
     let mut left = first;
     let mut rest = ts;
@@ -71,7 +69,7 @@ fn closes<'s>(alloc: Global, c: Rules, depth: usize, count: usize, first: Built,
 
 #[cycle(parser)]
 pub fn climb<'s>(alloc: Global, c: Rules, depth: usize, low: u8, first: Built, text: &[u8], ts: &'s [Terminal]) -> Result<(Built, &'s [Terminal]), ParseError>
-    ensures { Gives (λ x. (t.expr x.0.tree, all_seen text.now x.1.now)) result (spec.climb c (spec.expr c depth) low c.turns (t.expr first.tree) (all_seen text.now ts.entry.now)) }
+    ensures { Gives (λ x. (t.expr x.0.tree.value, all_seen text.now x.1.now)) result (spec.climb c (spec.expr c depth) low c.turns (t.expr first.tree.value) (all_seen text.now ts.entry.now)) }
 {
     let mut left = first;
     let mut rest = ts;
@@ -93,10 +91,10 @@ pub fn climb<'s>(alloc: Global, c: Rules, depth: usize, low: u8, first: Built, t
 #[cycle(parser)]
 #[tactic(auto, unfolding(grammar_reading::specs::Reading::operand))]
 pub fn operand<'s>(alloc: Global, c: Rules, depth: usize, text: &[u8], ts: &'s [Terminal]) -> Result<(Built, &'s [Terminal]), ParseError>
-    ensures { Gives (λ x. (t.expr x.0.tree, all_seen text.now x.1.now)) result (spec.operand c (spec.expr c depth) (spec.lower c depth) (all_seen text.now ts.entry.now)) }
+    ensures { Gives (λ x. (t.expr x.0.tree.value, all_seen text.now x.1.now)) result (spec.operand c (spec.expr c depth) (spec.lower c depth) (all_seen text.now ts.entry.now)) }
 {
     match ts {
-        [Terminal::Literal(n), rest @ ..] => Ok((build::literal(*n), rest)),
+        [Terminal::Literal(n), rest @ ..] => Ok((leaf(alloc, Expr::Lit(*n))?, rest)),
         [Terminal::Name(start, end), rest @ ..] => named(alloc, c, depth, *start, *end, text, rest),
         [Terminal::Symbol(sign), rest @ ..] => signed(alloc, c, depth, *sign, text, rest),
         [] => Err(ParseError::Syntax(0)),
@@ -105,7 +103,7 @@ pub fn operand<'s>(alloc: Global, c: Rules, depth: usize, text: &[u8], ts: &'s [
 
 #[cycle(parser)]
 fn signed<'s>(alloc: Global, c: Rules, depth: usize, sign: Symbol, text: &[u8], ts: &'s [Terminal]) -> Result<(Built, &'s [Terminal]), ParseError>
-    ensures { Gives (λ x. (t.expr x.0.tree, all_seen text.now x.1.now)) result (spec.signed c (spec.expr c depth) (spec.lower c depth) sign (all_seen text.now ts.entry.now)) }
+    ensures { Gives (λ x. (t.expr x.0.tree.value, all_seen text.now x.1.now)) result (spec.signed c (spec.expr c depth) (spec.lower c depth) sign (all_seen text.now ts.entry.now)) }
 {
     match sign {
         Symbol::Minus => applied(alloc, c, depth, UnOp::Neg, text, ts),
@@ -114,7 +112,7 @@ fn signed<'s>(alloc: Global, c: Rules, depth: usize, sign: Symbol, text: &[u8], 
         Symbol::Umax => call(alloc, c, depth, Two::Max, text, ts),
         Symbol::BalMin => call(alloc, c, depth, Two::Least, text, ts),
         Symbol::BalMax => call(alloc, c, depth, Two::Greatest, text, ts),
-        Symbol::BalWide => wide(c, text, ts),
+        Symbol::BalWide => wide(alloc, c, text, ts),
         Symbol::OpenParen => converted(alloc, c, depth, text, ts),
         _ => Err(ParseError::Syntax(ts.len())),
     }
@@ -122,16 +120,16 @@ fn signed<'s>(alloc: Global, c: Rules, depth: usize, sign: Symbol, text: &[u8], 
 
 #[cycle(parser)]
 fn applied<'s>(alloc: Global, c: Rules, depth: usize, op: UnOp, text: &[u8], ts: &'s [Terminal]) -> Result<(Built, &'s [Terminal]), ParseError>
-    ensures { Gives (λ x. (t.expr x.0.tree, all_seen text.now x.1.now)) result (spec.applied c (spec.expr c depth) op (all_seen text.now ts.entry.now)) }
+    ensures { Gives (λ x. (t.expr x.0.tree.value, all_seen text.now x.1.now)) result (spec.applied c (spec.expr c depth) op (all_seen text.now ts.entry.now)) }
 {
     let (a, rest) = expression(alloc, c, depth, 7, text, ts)?;
-    build::unary(alloc, c, op, a, text, rest)
+    node(alloc, c, Expr::Un(op, a.tree), a.height, text, rest)
 }
 
 #[cycle(parser)]
 #[tactic(auto, unfolding(grammar_reading::specs::Reading::two))]
 fn two<'s>(alloc: Global, c: Rules, depth: usize, k: Two, text: &[u8], ts: &'s [Terminal]) -> Result<(Built, &'s [Terminal]), ParseError>
-    ensures { Gives (λ x. (t.expr x.0.tree, all_seen text.now x.1.now)) result (spec.two c (spec.expr c depth) (call_of k) (all_seen text.now ts.entry.now)) }
+    ensures { Gives (λ x. (t.expr x.0.tree.value, all_seen text.now x.1.now)) result (spec.two c (spec.expr c depth) (call_of k) (all_seen text.now ts.entry.now)) }
 {
     let inside = expect(Symbol::OpenParen, text, ts)?;
     let (a, comma) = expression(alloc, c, depth, 1, text, inside)?;
@@ -143,7 +141,7 @@ fn two<'s>(alloc: Global, c: Rules, depth: usize, k: Two, text: &[u8], ts: &'s [
 
 #[cycle(parser)]
 fn call<'s>(alloc: Global, c: Rules, depth: usize, k: Two, text: &[u8], ts: &'s [Terminal]) -> Result<(Built, &'s [Terminal]), ParseError>
-    ensures { Gives (λ x. (t.expr x.0.tree, all_seen text.now x.1.now)) result (spec.call c (spec.expr c depth) (call_of k) (all_seen text.now ts.entry.now)) }
+    ensures { Gives (λ x. (t.expr x.0.tree.value, all_seen text.now x.1.now)) result (spec.call c (spec.expr c depth) (call_of k) (all_seen text.now ts.entry.now)) }
 {
     if build::allowed(c, k) {
         two(alloc, c, depth, k, text, ts)
@@ -153,8 +151,8 @@ fn call<'s>(alloc: Global, c: Rules, depth: usize, k: Two, text: &[u8], ts: &'s 
 }
 
 #[tactic(auto, unfolding(grammar_reading::specs::Reading::wide_parts))]
-fn wide<'s>(c: Rules, text: &[u8], ts: &'s [Terminal]) -> Result<(Built, &'s [Terminal]), ParseError>
-    ensures { (depth : ℕ) → Gives (λ x. (t.expr x.0.tree, all_seen text.now x.1.now)) result (spec.wide c (spec.expr c depth) (all_seen text.now ts.entry.now)) }
+fn wide<'s>(alloc: Global, c: Rules, text: &[u8], ts: &'s [Terminal]) -> Result<(Built, &'s [Terminal]), ParseError>
+    ensures { (depth : ℕ) → Gives (λ x. (t.expr x.0.tree.value, all_seen text.now x.1.now)) result (spec.wide c (spec.expr c depth) (all_seen text.now ts.entry.now)) }
 {
     if !c.printed {
         return Err(ParseError::Syntax(ts.len()));
@@ -164,12 +162,12 @@ fn wide<'s>(c: Rules, text: &[u8], ts: &'s [Terminal]) -> Result<(Built, &'s [Te
     let second = expect(Symbol::Comma, text, comma)?;
     let (low, close) = number(text, second)?;
     let rest = expect(Symbol::CloseParen, text, close)?;
-    Ok((build::big(high, low), rest))
+    Ok((leaf(alloc, Expr::Big(high, low))?, rest))
 }
 
 #[cycle(parser)]
 fn converted<'s>(alloc: Global, c: Rules, depth: usize, text: &[u8], ts: &'s [Terminal]) -> Result<(Built, &'s [Terminal]), ParseError>
-    ensures { Gives (λ x. (t.expr x.0.tree, all_seen text.now x.1.now)) result (spec.converted c (spec.expr c depth) (spec.lower c depth) (all_seen text.now ts.entry.now)) }
+    ensures { Gives (λ x. (t.expr x.0.tree.value, all_seen text.now x.1.now)) result (spec.converted c (spec.expr c depth) (spec.lower c depth) (all_seen text.now ts.entry.now)) }
 {
     match after(Symbol::Uint64, text, ts) {
         Some(word) => word_cast(alloc, c, depth, text, word),
@@ -180,7 +178,7 @@ fn converted<'s>(alloc: Global, c: Rules, depth: usize, text: &[u8], ts: &'s [Te
 #[cycle(parser)]
 #[tactic(auto, unfolding(grammar_reading::specs::Reading::wide_parts_cast))]
 fn wide_cast<'s>(alloc: Global, c: Rules, depth: usize, text: &[u8], ts: &'s [Terminal]) -> Result<(Built, &'s [Terminal]), ParseError>
-    ensures { Gives (λ x. (t.expr x.0.tree, all_seen text.now x.1.now)) result (spec.wide_cast c (spec.expr c depth) (all_seen text.now ts.entry.now)) }
+    ensures { Gives (λ x. (t.expr x.0.tree.value, all_seen text.now x.1.now)) result (spec.wide_cast c (spec.expr c depth) (all_seen text.now ts.entry.now)) }
 {
     if !c.printed {
         return Err(ParseError::Syntax(ts.len()));
@@ -189,20 +187,20 @@ fn wide_cast<'s>(alloc: Global, c: Rules, depth: usize, text: &[u8], ts: &'s [Te
     let close = expect(Symbol::Int128, text, doubled)?;
     let inner = expect(Symbol::CloseParen, text, close)?;
     let (u, rest) = expression(alloc, c, depth, 7, text, inner)?;
-    build::widen(alloc, c, u, text, rest)
+    node(alloc, c, Expr::Widen(u.tree), u.height, text, rest)
 }
 
 #[cycle(parser)]
 #[tactic(auto, unfolding(grammar_reading::specs::Reading::word_cast))]
 fn word_cast<'s>(alloc: Global, c: Rules, depth: usize, text: &[u8], ts: &'s [Terminal]) -> Result<(Built, &'s [Terminal]), ParseError>
-    ensures { Gives (λ x. (t.expr x.0.tree, all_seen text.now x.1.now)) result (spec.word_cast c (spec.expr c depth) (spec.lower c depth) (all_seen text.now ts.entry.now)) }
+    ensures { Gives (λ x. (t.expr x.0.tree.value, all_seen text.now x.1.now)) result (spec.word_cast c (spec.expr c depth) (spec.lower c depth) (all_seen text.now ts.entry.now)) }
 {
     let inner = expect(Symbol::CloseParen, text, ts)?;
     match paren(text, inner) {
         Some(inside) => grouped(alloc, c, depth, text, inside),
         None => {
             let (u, rest) = expression(alloc, c, depth, 7, text, inner)?;
-            build::cast(alloc, c, u, text, rest)
+            node(alloc, c, Expr::Cast(u.tree), u.height, text, rest)
         }
     }
 }
@@ -211,14 +209,15 @@ fn word_cast<'s>(alloc: Global, c: Rules, depth: usize, text: &[u8], ts: &'s [Te
 #[cycle(parser)]
 #[tactic(auto, unfolding(grammar_reading::specs::Reading::grouped))]
 fn grouped<'s>(alloc: Global, c: Rules, depth: usize, text: &[u8], ts: &'s [Terminal]) -> Result<(Built, &'s [Terminal]), ParseError>
-    ensures { Gives (λ x. (t.expr x.0.tree, all_seen text.now x.1.now)) result (spec.grouped c (spec.expr c depth) (spec.lower c depth) (all_seen text.now ts.entry.now)) }
+    ensures { Gives (λ x. (t.expr x.0.tree.value, all_seen text.now x.1.now)) result (spec.grouped c (spec.expr c depth) (spec.lower c depth) (all_seen text.now ts.entry.now)) }
 {
     let (a, rest) = expression(alloc, c, depth, 4, text, ts)?;
     match front_rel(text, rest) {
         Some((rel, second)) => {
             let (b, behind) = expression(alloc, c, depth, 4, text, second)?;
             let rest = expect(Symbol::CloseParen, text, behind)?;
-            build::test(alloc, c, rel, a, b, text, rest)
+            let below = a.height.max(b.height);
+            node(alloc, c, Expr::Test(rel, a.tree, b.tree), below, text, rest)
         }
         None => lone(alloc, c, depth, a, text, rest),
     }
@@ -228,15 +227,15 @@ fn grouped<'s>(alloc: Global, c: Rules, depth: usize, text: &[u8], ts: &'s [Term
 #[tactic(auto, unfolding(grammar_reading::specs::Reading::expr))]
 fn lone<'s>(alloc: Global, c: Rules, depth: usize, a: Built, text: &[u8], ts: &'s [Terminal]) -> Result<(Built, &'s [Terminal]), ParseError>
     requires { 0 < depth }
-    ensures { Gives (λ x. (t.expr x.0.tree, all_seen text.now x.1.now)) result (spec.grouped_by c (spec.expr c depth) (spec.lower c depth) (t.expr a.tree) (all_seen text.now ts.entry.now) None) }
+    ensures { Gives (λ x. (t.expr x.0.tree.value, all_seen text.now x.1.now)) result (spec.grouped_by c (spec.expr c depth) (spec.lower c depth) (t.expr a.tree.value) (all_seen text.now ts.entry.now) None) }
 {
     let (u, rest) = close(alloc, c, depth - 1, a, text, ts)?;
-    build::cast(alloc, c, u, text, rest)
+    node(alloc, c, Expr::Cast(u.tree), u.height, text, rest)
 }
 
 #[cycle(parser)]
-fn named<'s>(alloc: Global, c: Rules, depth: usize, start: u32, end: u32, text: &[u8], ts: &'s [Terminal]) -> Result<(Built, &'s [Terminal]), ParseError>
-    ensures { Gives (λ r. (t.expr r.0.tree, all_seen text.now r.1.now)) result (spec.named c (spec.expr c depth) (word_at text.now start end) (all_seen text.now ts.entry.now)) }
+pub fn named<'s>(alloc: Global, c: Rules, depth: usize, start: u32, end: u32, text: &[u8], ts: &'s [Terminal]) -> Result<(Built, &'s [Terminal]), ParseError>
+    ensures { Gives (λ r. (t.expr r.0.tree.value, all_seen text.now r.1.now)) result (spec.named c (spec.expr c depth) (word_at text.now start end) (all_seen text.now ts.entry.now)) }
 {
     match after(Symbol::OpenBracket, text, ts) {
         None => Ok((build::variable(alloc, word(text, start, end))?, ts)),
@@ -247,7 +246,7 @@ fn named<'s>(alloc: Global, c: Rules, depth: usize, start: u32, end: u32, text: 
     }
 }
 
-/// The bytes from one place of the text to another, none where that lies outside.
+/// The bytes from one place to another, none where that lies outside.
 pub fn word(text: &[u8], start: u32, end: u32) -> &[u8]
     ensures { result.now ≡ word_at text.now start end }
 {
@@ -263,7 +262,7 @@ pub fn word(text: &[u8], start: u32, end: u32) -> &[u8]
 #[cycle(parser)]
 #[tactic(auto, unfolding(grammar_reading::specs::Reading::one_cell))]
 fn one_cell<'s>(alloc: Global, c: Rules, depth: usize, text: &[u8], ts: &'s [Terminal]) -> Result<(Built, &'s [Terminal]), ParseError>
-    ensures { Gives (λ r. (t.expr r.0.tree, all_seen text.now r.1.now)) result (spec.one_cell c (spec.expr c depth) (all_seen text.now ts.entry.now)) }
+    ensures { Gives (λ r. (t.expr r.0.tree.value, all_seen text.now r.1.now)) result (spec.one_cell c (spec.expr c depth) (all_seen text.now ts.entry.now)) }
 {
     let inside = expect(Symbol::OpenBracket, text, ts)?;
     let (u, close) = expression(alloc, c, depth, 1, text, inside)?;
@@ -288,9 +287,9 @@ fn cells<'s>(alloc: Global, c: Rules, depth: usize, text: &[u8], ts: &'s [Termin
     Err(ParseError::Syntax(rest.len()))
 }
 
-/// A whole expression, and the tokens behind it.
-pub fn side<'s>(alloc: Global, c: Rules, text: &[u8], ts: &'s [Terminal]) -> Result<(Expr, &'s [Terminal]), ParseError>
-    ensures { Gives (λ x. (t.expr x.0, all_seen text.now x.1.now)) result (blocks.side c (all_seen text.now ts.entry.now)) }
+/// An expression that is as high as the text may have one.
+pub fn full_expression<'s>(alloc: Global, c: Rules, text: &[u8], ts: &'s [Terminal]) -> Result<(Box<Expr>, &'s [Terminal]), ParseError>
+    ensures { Gives (λ x. (t.expr x.0.value, all_seen text.now x.1.now)) result (spec.expr c c.limit 1 (all_seen text.now ts.entry.now)) }
 {
     let (built, rest) = expression(alloc, c, usize::from(c.limit), 1, text, ts)?;
     Ok((built.tree, rest))
@@ -304,5 +303,6 @@ pub fn parse_expression(alloc: Global, printed: bool, text: &[u8], ts: &[Termina
     ensures only { (u : PlainExpr) → IsLow printed (limit printed) 1 (all_seen text.now ts.now) u [] → Gives t.expr result (Some u) }
 {
     let turns = ts.len() + 1;
-    Ok(whole(alloc, Rules { printed, limit: limit(printed), turns }, text, ts)?.tree)
+    let built = whole(alloc, Rules { printed, limit: limit(printed), turns }, text, ts)?;
+    Ok(Box::into_inner(built.tree))
 }

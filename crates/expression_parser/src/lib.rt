@@ -11,6 +11,6 @@ mod terminal;
 pub use build::{Built, name_of};
 pub use condition::conds;
 pub use error::ParseError;
-pub use expression::{parse_expression, side, word};
-pub use steps::{after, expect, number};
+pub use expression::{full_expression, named, parse_expression, word};
+pub use steps::{after, expect, front_rel, number};
 pub use terminal::Terminal;

@@ -8,10 +8,8 @@ ghost use Rattle.grammar_reading.specs.Reading as spec;
 ghost use Rattle.expression_parser.specs.Outcome.{Gives};
 
 use crate::error::ParseError;
-use c_tree::{BinOp, Rel};
-use grammar_reading::Rules;
 use crate::terminal::Terminal;
-use c_tree::Symbol;
+use c_tree::{BinOp, Rel, Symbol, ops};
 
 #[tactic(auto, unfolding(grammar_reading::specs::Reading::same))]
 fn same_sign(a: Symbol, b: Symbol) -> bool
@@ -58,35 +56,28 @@ pub fn number<'s>(text: &[u8], ts: &'s [Terminal]) -> Result<(u64, &'s [Terminal
     }
 }
 
+macro_rules! level_of {
+    ([$op:expr] $($name:ident $level:literal $symbol:ident $mark:literal $value:tt)*) => {
+        match $op { $(BinOp::$name => $level),* }
+    };
+}
+
+macro_rules! operator_of {
+    ([$from:expr] $($name:ident $level:literal $symbol:ident $mark:literal $value:tt)*) => {
+        match $from { $(Symbol::$symbol => Some(BinOp::$name),)* _ => None }
+    };
+}
+
 pub fn level(op: BinOp) -> u8
     ensures { result ≡ tables.level op }
 {
-    match op {
-        BinOp::Or => 1,
-        BinOp::Xor => 2,
-        BinOp::And => 3,
-        BinOp::Shl | BinOp::Shr => 4,
-        BinOp::Add | BinOp::Sub => 5,
-        BinOp::Mul | BinOp::Div | BinOp::Rem => 6,
-    }
+    ops!(level_of op)
 }
 
 fn operator(sign: Symbol) -> Option<BinOp>
     ensures { result ≡ spec.operator sign }
 {
-    match sign {
-        Symbol::Bar => Some(BinOp::Or),
-        Symbol::Caret => Some(BinOp::Xor),
-        Symbol::Ampersand => Some(BinOp::And),
-        Symbol::ShiftLeft => Some(BinOp::Shl),
-        Symbol::ShiftRight => Some(BinOp::Shr),
-        Symbol::Plus => Some(BinOp::Add),
-        Symbol::Minus => Some(BinOp::Sub),
-        Symbol::Star => Some(BinOp::Mul),
-        Symbol::Slash => Some(BinOp::Div),
-        Symbol::Percent => Some(BinOp::Rem),
-        _ => None,
-    }
+    ops!(operator_of sign)
 }
 
 fn relation(sign: Symbol) -> Option<Rel>

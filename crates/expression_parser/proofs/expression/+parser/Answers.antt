@@ -16,37 +16,37 @@ use Rattle.expression_parser.proofs.expression.+parser.Goals as goal
 pub climb-returns-in_default : goal.climb-returns-in_default
 unfolding climb
 climb-returns-in_default w c =
-    let e = one_more (λ (n : ℕ). climb c.args.c (expr c.args.c c.args.depth) c.args.low n (t.expr c.loop-turn.left.tree) (all_seen c.args.text.now c.loop-turn.rest.now)) _ c.loop-turn._turn c.loop-turn-test.true c.loop-turn.invariant in
+    let e = one_more (λ (n : ℕ). climb c.args.c (expr c.args.c c.args.depth) c.args.low n (t.expr c.loop-turn.left.tree.value) (all_seen c.args.text.now c.loop-turn.rest.now)) _ c.loop-turn._turn c.loop-turn-test.true c.loop-turn.invariant in
     first_of (search rules, grind (arith, common_steps))
 
 pub climb-returns-then-level-low : goal.climb-returns-then-level-low
 unfolding climb
 climb-returns-then-level-low w c =
-    let e = one_more (λ (n : ℕ). climb c.args.c (expr c.args.c c.args.depth) c.args.low n (t.expr c.loop-turn.left.tree) (all_seen c.args.text.now c.loop-turn.rest.now)) _ c.loop-turn._turn c.loop-turn-test.true c.loop-turn.invariant in
+    let e = one_more (λ (n : ℕ). climb c.args.c (expr c.args.c c.args.depth) c.args.low n (t.expr c.loop-turn.left.tree.value) (all_seen c.args.text.now c.loop-turn.rest.now)) _ c.loop-turn._turn c.loop-turn-test.true c.loop-turn.invariant in
     first_of (search rules, grind (arith, common_steps))
 
 pub climb-returns-in_err-right : goal.climb-returns-in_err-right
 unfolding climb
 climb-returns-in_err-right w c =
-    let e = one_more (λ (n : ℕ). climb c.args.c (expr c.args.c c.args.depth) c.args.low n (t.expr c.loop-turn.left.tree) (all_seen c.args.text.now c.loop-turn.rest.now)) _ c.loop-turn._turn c.loop-turn-test.true c.loop-turn.invariant in
+    let e = one_more (λ (n : ℕ). climb c.args.c (expr c.args.c c.args.depth) c.args.low n (t.expr c.loop-turn.left.tree.value) (all_seen c.args.text.now c.loop-turn.rest.now)) _ c.loop-turn._turn c.loop-turn-test.true c.loop-turn.invariant in
     first_of (search rules, grind (arith, common_steps))
 
 pub climb-returns-in_err-whole : goal.climb-returns-in_err-whole
 unfolding climb
 climb-returns-in_err-whole w c =
-    let e = one_more (λ (n : ℕ). climb c.args.c (expr c.args.c c.args.depth) c.args.low n (t.expr c.loop-turn.left.tree) (all_seen c.args.text.now c.loop-turn.rest.now)) _ c.loop-turn._turn c.loop-turn-test.true c.loop-turn.invariant in
+    let e = one_more (λ (n : ℕ). climb c.args.c (expr c.args.c c.args.depth) c.args.low n (t.expr c.loop-turn.left.tree.value) (all_seen c.args.text.now c.loop-turn.rest.now)) _ c.loop-turn._turn c.loop-turn-test.true c.loop-turn.invariant in
     first_of (search rules, grind (arith, common_steps))
 
 pub climb-loop-turn-preserved : goal.climb-loop-turn-preserved
 unfolding climb
 climb-loop-turn-preserved w c =
-    let e = one_more (λ (n : ℕ). climb c.args.c (expr c.args.c c.args.depth) c.args.low n (t.expr c.loop-turn.left.tree) (all_seen c.args.text.now c.loop-turn.rest.now)) _ c.loop-turn._turn c.loop-turn-test.true c.loop-turn.invariant in
+    let e = one_more (λ (n : ℕ). climb c.args.c (expr c.args.c c.args.depth) c.args.low n (t.expr c.loop-turn.left.tree.value) (all_seen c.args.text.now c.loop-turn.rest.now)) _ c.loop-turn._turn c.loop-turn-test.true c.loop-turn.invariant in
     first_of (search rules, grind (arith, common_steps))
 
 pub climb-returns : goal.climb-returns
 unfolding climb
 climb-returns w c =
-    let e = no_more (λ (n : ℕ). climb c.args.c (expr c.args.c c.args.depth) c.args.low n (t.expr c.loop-turn.left.tree) (all_seen c.args.text.now c.loop-turn.rest.now)) _ c.loop-turn._turn c.loop-turn-test.false c.loop-turn.invariant in
+    let e = no_more (λ (n : ℕ). climb c.args.c (expr c.args.c c.args.depth) c.args.low n (t.expr c.loop-turn.left.tree.value) (all_seen c.args.text.now c.loop-turn.rest.now)) _ c.loop-turn._turn c.loop-turn-test.false c.loop-turn.invariant in
     first_of (search rules, grind (arith, common_steps))
 
 pub cells-returns-in_err-u : goal.cells-returns-in_err-u
@@ -59,14 +59,14 @@ pub cells-returns-then-is_none : goal.cells-returns-then-is_none
 cells-returns-then-is_none w c =
     let e = one_more (λ (n : ℕ). behind (t.exprs c.loop-turn.row.trees) (cells c.args.c (expr c.args.c c.args.depth) n (all_seen c.args.text.now c.loop-turn.rest.now))) _ c.loop-turn._turn c.loop-turn-test.true c.loop-turn.invariant in
     let stop : expect s.OpenBracket (all_seen c.args.text.now c.in_ok-u.behind.now) ≡ None = first_of (search rules, grind (arith, common_steps)) in
-    let turn = last_turn c.args.c (expr c.args.c c.args.depth) (c.args.c.turns - (c.loop-turn._turn + 1)) (t.exprs c.loop-turn.row.trees) (t.expr c.in_ok-u.u.tree) (all_seen c.args.text.now c.loop-turn.rest.now) (all_seen c.args.text.now c.in_ok-u.behind.now) c.in_ok-u.ensures stop in
+    let turn = last_turn c.args.c (expr c.args.c c.args.depth) (c.args.c.turns - (c.loop-turn._turn + 1)) (t.exprs c.loop-turn.row.trees) (t.expr c.in_ok-u.u.tree.value) (all_seen c.args.text.now c.loop-turn.rest.now) (all_seen c.args.text.now c.in_ok-u.behind.now) c.in_ok-u.ensures stop in
     e ∙ turn ∙ ap (λ (us : PlainExprs). Some (us, all_seen c.args.text.now c.in_ok-u.behind.now)) (sym c.in_ok-row.ensures)
 
 pub cells-loop-turn-preserved : goal.cells-loop-turn-preserved
 cells-loop-turn-preserved w c =
     let e = one_more (λ (n : ℕ). behind (t.exprs c.loop-turn.row.trees) (cells c.args.c (expr c.args.c c.args.depth) n (all_seen c.args.text.now c.loop-turn.rest.now))) _ c.loop-turn._turn c.loop-turn-test.true c.loop-turn.invariant in
     let goes : (inside : List Lexeme) × (expect s.OpenBracket (all_seen c.args.text.now c.in_ok-u.behind.now) ≡ Some inside) = present _ _ _ c.after.ensures.value _ c.is_none.ensures c.if-is_none.false in
-    let turn = next_turn c.args.c (expr c.args.c c.args.depth) (c.args.c.turns - (c.loop-turn._turn + 1)) (t.exprs c.loop-turn.row.trees) (t.expr c.in_ok-u.u.tree) (all_seen c.args.text.now c.loop-turn.rest.now) (all_seen c.args.text.now c.in_ok-u.behind.now) goes.0 c.in_ok-u.ensures goes.1 in
+    let turn = next_turn c.args.c (expr c.args.c c.args.depth) (c.args.c.turns - (c.loop-turn._turn + 1)) (t.exprs c.loop-turn.row.trees) (t.expr c.in_ok-u.u.tree.value) (all_seen c.args.text.now c.loop-turn.rest.now) (all_seen c.args.text.now c.in_ok-u.behind.now) goes.0 c.in_ok-u.ensures goes.1 in
     e ∙ turn ∙ ap (λ (us : PlainExprs). behind us (cells c.args.c (expr c.args.c c.args.depth) (c.args.c.turns - (c.loop-turn._turn + 1)) (all_seen c.args.text.now c.in_ok-u.behind.now))) (sym c.in_ok-row.ensures)
 
 pub cells-returns : goal.cells-returns
@@ -78,19 +78,19 @@ cells-returns w c =
 pub closes-returns-in_err-whole : goal.closes-returns-in_err-whole
 unfolding closes
 closes-returns-in_err-whole w c =
-    let e = one_more (λ (n : ℕ). closes c.args.c (expr c.args.c c.args.depth) n (t.expr c.loop-turn.left.tree) (all_seen c.args.text.now c.loop-turn.rest.now)) _ c.loop-turn._turn c.loop-turn-test.true c.loop-turn.invariant in
+    let e = one_more (λ (n : ℕ). closes c.args.c (expr c.args.c c.args.depth) n (t.expr c.loop-turn.left.tree.value) (all_seen c.args.text.now c.loop-turn.rest.now)) _ c.loop-turn._turn c.loop-turn-test.true c.loop-turn.invariant in
     first_of (search rules, grind (arith, common_steps))
 
 pub closes-loop-turn-preserved : goal.closes-loop-turn-preserved
 unfolding closes
 closes-loop-turn-preserved w c =
-    let e = one_more (λ (n : ℕ). closes c.args.c (expr c.args.c c.args.depth) n (t.expr c.loop-turn.left.tree) (all_seen c.args.text.now c.loop-turn.rest.now)) _ c.loop-turn._turn c.loop-turn-test.true c.loop-turn.invariant in
+    let e = one_more (λ (n : ℕ). closes c.args.c (expr c.args.c c.args.depth) n (t.expr c.loop-turn.left.tree.value) (all_seen c.args.text.now c.loop-turn.rest.now)) _ c.loop-turn._turn c.loop-turn-test.true c.loop-turn.invariant in
     first_of (search rules, grind (arith, common_steps))
 
 pub closes-returns : goal.closes-returns
 unfolding closes
 closes-returns w c =
-    let e = no_more (λ (n : ℕ). closes c.args.c (expr c.args.c c.args.depth) n (t.expr c.loop-turn.left.tree) (all_seen c.args.text.now c.loop-turn.rest.now)) _ c.loop-turn._turn c.loop-turn-test.false c.loop-turn.invariant in
+    let e = no_more (λ (n : ℕ). closes c.args.c (expr c.args.c c.args.depth) n (t.expr c.loop-turn.left.tree.value) (all_seen c.args.text.now c.loop-turn.rest.now)) _ c.loop-turn._turn c.loop-turn-test.false c.loop-turn.invariant in
     first_of (search rules, grind (arith, common_steps))
 
 pub expression-returns-in_err-first : goal.expression-returns-in_err-first

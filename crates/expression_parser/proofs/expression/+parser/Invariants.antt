@@ -57,10 +57,10 @@ abbrev pub decreases-operand : goal.decreases-operand
 decreases-operand l = 10 * l.depth + 5
 
 abbrev pub invariant-closes-loop-turn : goal.invariant-closes-loop-turn
-invariant-closes-loop-turn l = spec.closes l.c (spec.expr l.c l.depth) l.count (expr l.fn.first.tree) (all_seen l.text l.ts) ≡ spec.closes l.c (spec.expr l.c l.depth) (l.count - l._turn) (expr l.left.tree) (all_seen l.text l.rest)
+invariant-closes-loop-turn l = spec.closes l.c (spec.expr l.c l.depth) l.count (expr l.fn.first.tree.value) (all_seen l.text l.ts) ≡ spec.closes l.c (spec.expr l.c l.depth) (l.count - l._turn) (expr l.left.tree.value) (all_seen l.text l.rest)
 
 abbrev pub invariant-cells-loop-turn : goal.invariant-cells-loop-turn
 invariant-cells-loop-turn l = spec.cells l.c (spec.expr l.c l.depth) l.c.turns (all_seen l.text l.ts) ≡ behind (exprs l.row.trees) (spec.cells l.c (spec.expr l.c l.depth) (l.c.turns - l._turn) (all_seen l.text l.rest))
 
 abbrev pub invariant-climb-loop-turn : goal.invariant-climb-loop-turn
-invariant-climb-loop-turn l = spec.climb l.c (spec.expr l.c l.depth) l.low l.c.turns (expr l.fn.first.tree) (all_seen l.text l.ts) ≡ spec.climb l.c (spec.expr l.c l.depth) l.low (l.c.turns - l._turn) (expr l.left.tree) (all_seen l.text l.rest)
+invariant-climb-loop-turn l = spec.climb l.c (spec.expr l.c l.depth) l.low l.c.turns (expr l.fn.first.tree.value) (all_seen l.text l.ts) ≡ spec.climb l.c (spec.expr l.c l.depth) l.low (l.c.turns - l._turn) (expr l.left.tree.value) (all_seen l.text l.rest)
