@@ -1,4 +1,2 @@
-pub mod OneLoopText
-pub mod Outcome
-pub mod Reading
 pub mod Seen
+pub mod Wanted
