@@ -17,7 +17,7 @@ use Rattle.c_tree.specs.declared.refusal.Refusal.TheVariants as refusal
 use Rattle.c_tree.specs.declared.symbol.Symbol.{Symbol}
 use Rattle.c_tree.specs.declared.symbol.Symbol.TheVariants as s
 use Rattle.c_tree.specs.declared.token.Token.{Token}
-use Rattle.balance_cli.specs.Sources.{Accepts, Refuses, IsUnbuilt}
+use Rattle.balance_cli.specs.Sources.{Accepts, Refuses, IsUnbuilt, HasNoUnit}
 use Rattle.balance_cli.specs.declared.judging.Wanted.{Wanted}
 use Rattle.balance_cli.specs.declared.judging.Wanted.TheVariants.{Source, AnyText}
 
@@ -25,6 +25,9 @@ use Rattle.balance_cli.specs.declared.judging.Wanted.TheVariants.{Source, AnyTex
 pub record TextLaws : Type 0 where
   pub once : (text : List ℕ) (a b : PlainUnit) → IsText text a → IsText text b → a ≡ b
   pub apart : (text : List ℕ) (ts : List Token) (byte : ℕ) → AreTokens text ts → StopsAt text byte → ⊥
+  pub tokens : (text : List ℕ) → ((ts : List Token) × AreTokens text ts) ⊎ ((byte : ℕ) × StopsAt text byte)
+  pub units : (text : List ℕ) → ((a : PlainUnit) × IsText text a) ⊎ ((a : PlainUnit) → IsText text a → ⊥)
+  pub forms : (a : PlainUnit) → IsOneLoop a ⊎ (IsOneLoop a → ⊥)
 
 is_preamble : Symbol → Bool
 is_preamble s.Preamble = true
@@ -74,3 +77,36 @@ judged_once laws AnyText text a (refusal.Syntax byte) one two = two.none a one.i
 judged_once laws Source text a refusal.Unbuilt one two = unbuilt_once laws text a one two.1
 judged_once laws AnyText text a refusal.Unbuilt one two = unbuilt_once laws text a one two
 judged_once laws kind text a _ one two = two
+
+-- ---- each text is taken or refused
+
+abbrev Judged : Wanted → List ℕ → Type 0
+Judged kind text = ((a : PlainUnit) × Accepts text a) ⊎ ((why : Refusal) × Refuses kind text why)
+
+of_unit : TextLaws → (kind : Wanted) (text : List ℕ) → (kind ≡ Source → is_printed text ≡ false) → (a : PlainUnit) → IsText text a → IsOneLoop a ⊎ (IsOneLoop a → ⊥) → Judged kind text
+of_unit laws kind text plain a is (inl form) = inl (a, record { is_text = is; one_loop = form })
+of_unit laws Source text plain a is (inr other) = inr (refusal.Unbuilt, plain refl, record { unit = a; is_text = is; other = other })
+of_unit laws AnyText text plain a is (inr other) = inr (refusal.Unbuilt, record { unit = a; is_text = is; other = other })
+
+without : (text : List ℕ) (ts : List Token) → AreTokens text ts → ((a : PlainUnit) → IsText text a → ⊥) → HasNoUnit text (length text)
+without text ts are none = record { place = record { tokens = ts; are_tokens = are; place = inl refl }; none = none }
+
+no_unit : (kind : Wanted) (text : List ℕ) → (kind ≡ Source → is_printed text ≡ false) → HasNoUnit text (length text) → Refuses kind text (refusal.Syntax (length text))
+no_unit Source text plain none = inr (plain refl, none)
+no_unit AnyText text plain none = none
+
+of_tokens : TextLaws → (kind : Wanted) (text : List ℕ) → (kind ≡ Source → is_printed text ≡ false) → (ts : List Token) → AreTokens text ts → ((a : PlainUnit) × IsText text a) ⊎ ((a : PlainUnit) → IsText text a → ⊥) → Judged kind text
+of_tokens laws kind text plain ts are (inl some) = of_unit laws kind text plain some.0 some.1 (laws.forms some.0)
+of_tokens laws kind text plain ts are (inr none) = inr (refusal.Syntax (length text), no_unit kind text plain (without text ts are none))
+
+of_kind : TextLaws → (kind : Wanted) (text : List ℕ) (ts : List Token) → AreTokens text ts → (b : Bool) → is_printed text ≡ b → Judged kind text
+of_kind laws kind text ts are false plain = of_tokens laws kind text (λ source. plain) ts are (laws.units text)
+of_kind laws AnyText text ts are true printed = of_tokens laws AnyText text (λ source. absurd (let no : ⊥ = cc in no)) ts are (laws.units text)
+of_kind laws Source text ts are true printed = inr (refusal.Syntax 0, inl (record { tokens = ts; are_tokens = are; printed = printed; at_start = refl }))
+
+of_text : TextLaws → (kind : Wanted) (text : List ℕ) → ((ts : List Token) × AreTokens text ts) ⊎ ((byte : ℕ) × StopsAt text byte) → Judged kind text
+of_text laws kind text (inl tokens) = of_kind laws kind text tokens.0 tokens.1 (is_printed text) refl
+of_text laws kind text (inr stop) = inr (refusal.Lexical stop.0, stop.1)
+
+pub taken_or_refused : TextLaws → (kind : Wanted) (text : List ℕ) → ((a : PlainUnit) × Accepts text a) ⊎ ((why : Refusal) × Refuses kind text why)
+taken_or_refused laws kind text = of_text laws kind text (laws.tokens text)
