@@ -90,6 +90,3 @@ pub fn written_is_read()
 pub fn samples_meet_conditions()
     ensures { AreSamples }
 {}
-
-#[cfg(test)]
-mod tests;
