@@ -1,4 +1,5 @@
 pub mod CarriedInputs
+pub mod Complete
 pub mod Decimals
 pub mod Filled
 pub mod Fronts

@@ -19,7 +19,7 @@ ghost use Rattle.std.specs.Prelude.{◌≡◌, IfOk};
 ghost use Rattle.data_file.specs.Texts.{data_text, output_text};
 ghost use Rattle.data_file.specs.Answers.{Answers};
 ghost use Rattle.data_file.specs.Samples.{AreSamples};
-ghost use Rattle.data_file.specs.Laws.{HasOneAnswer, IsReadBack};
+ghost use Rattle.data_file.specs.Laws.{HasOneAnswer, HasSomeAnswer, IsReadBack};
 ghost use Rattle.data_file.specs.Conditions.{HasRows, IsEndOf, IsFrame};
 
 use c_tree::{Ended, Frame, Inputs, OutOfMemory};
@@ -79,6 +79,11 @@ pub fn output(alloc: Global, f: &Frame, e: &Ended) -> Result<Vec<u8>, OutOfMemor
 /// A text means one thing at most, and no two causes of refusals hold at once.
 pub fn one_answer()
     ensures { HasOneAnswer }
+{}
+
+/// Each text means inputs that fit, or is refused for another cause than want of memory.
+pub fn some_answer()
+    ensures { HasSomeAnswer }
 {}
 
 /// What is written of inputs that fit is read back.
