@@ -1,12 +1,13 @@
-//! Texts and what is answered.
+//! Data texts and what is answered, and the output of a run.
 
 ghost use Rattle.std.specs.Prelude.{◌≡◌, [], ◌∷◌, ◌<◌, length, IfOk, ℕ, ℤ};
 ghost use Rattle.data_file.specs.Samples.{name_of, variable, line_frame, grid_frame};
 ghost use Rattle.data_file.specs.Conditions.{NamesBelow};
 
-use super::*;
-use c_tree::{Affine, ArrayInfo, ArrayNumbers, Cells, Ended, Name, Totals, Verdict};
+use c_tree::{Affine, ArrayInfo, ArrayNumbers, Cells, Ended, Frame, Inputs, Name, Totals, Verdict};
+use data_file::{DataRefusal, output, read_data, write_data};
 use sqlite_items::Items;
+use std::alloc::Global;
 use std::test::Fail;
 
 fn name(alloc: Global, bytes: &[u8]) -> Result<Name, DataRefusal>
@@ -196,11 +197,15 @@ fn counts_cells(rt: HostRuntime) -> Result<(), Fail> {
     assert_eq!(rt; many, Some(wrong));
     let large = read_grid(rt.alloc(), b"n = 4000\nm = 4000\nP = 1\nX = 1\n").err();
     assert_eq!(rt; large, Some(DataRefusal::TooLarge { array: 1 }));
-    let whole = read_grid(
-        rt.alloc(),
-        b"n = 2\nm = 1\nP = 1 2\nX = 18446744073709551615 0\n",
-    );
-    assert!(rt; whole.is_ok());
+    let text = b"n = 2\nm = 1\nP = 1 2\nX = 18446744073709551615 0\n";
+    let whole = read_grid(rt.alloc(), text)?;
+    assert_eq!(rt; whole.ints.as_slice(), [2, 1].as_slice());
+    let rows = [[1, 2], [18446744073709551615, 0]];
+    assert_eq!(rt; whole.cells.len(), 2);
+    for (array, row) in rows.iter().enumerate() {
+        let cells = whole.cells.get(array).map(|cells| cells.as_slice());
+        assert_eq!(rt; cells, Some(row.as_slice()));
+    }
     Ok(())
 }
 
