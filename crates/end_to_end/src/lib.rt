@@ -7,3 +7,7 @@ mod copies;
 mod instruments;
 #[cfg(test)]
 mod reads;
+#[cfg(test)]
+mod runs;
+#[cfg(test)]
+mod sources;
