@@ -39,6 +39,10 @@ pub record IsUnbuilt (text : List ℕ) : Type 0 where
   pub is_text : IsText text unit
   pub other : IsOneLoop unit → ⊥
 
+abbrev pub misplaced : Wanted → List ℕ → Bool
+misplaced Source text = is_printed text
+misplaced AnyText text = false
+
 -- where the command takes a source alone, and where it takes a printed text too
 abbrev pub HasNoUnitFor : Wanted → List ℕ → ℕ → Type 0
 HasNoUnitFor Source text byte = IsMisplaced text byte ⊎ ((is_printed text ≡ false) × HasNoUnit text byte)

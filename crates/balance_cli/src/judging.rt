@@ -3,6 +3,7 @@
 ghost use Rattle.std.specs.Prelude.{◌≡◌, ◌≤◌, length, Ok, Err};
 ghost use Rattle.c_tree.specs.Trees.{unit as unit_in};
 ghost use Rattle.c_tree.specs.Grammar.Texts.{IsText};
+ghost use Rattle.balance_cli.specs.Sources.{misplaced};
 ghost use Rattle.balance_cli.specs.Stages.{IsTaken};
 
 use c_parser::parse;
