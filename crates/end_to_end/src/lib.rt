@@ -5,3 +5,5 @@
 mod instruments;
 #[cfg(test)]
 mod reads;
+#[cfg(test)]
+mod refusals;
