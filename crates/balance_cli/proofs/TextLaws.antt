@@ -1,5 +1,5 @@
 -- What the laws of texts say of the judging of one: a text has one unit, and isn't both taken and refused.
-use Rattle.std.proofs.Common.{◌≡◌, ◌⊎◌, ℕ, Bool, true, false, List, [], ◌∷◌, ◌++◌, length, Option, Some, None, refl, sym, ap, subst, ◌∙◌, inl, inr}
+use Rattle.std.proofs.Common.{◌≡◌, ◌⊎◌, ℕ, ◌≤◌, Bool, true, false, List, [], ◌∷◌, ◌++◌, length, Option, Some, None, Err, refl, sym, ap, subst, ◌∙◌, inl, inr, arith}
 use Rattle.std.proofs.lemmas.Bool.{both_ways}
 use Rattle.std.specs.Prelude.{ℤ}
 use Rattle.c_tree.specs.Grammar.Heads as h
@@ -17,7 +17,9 @@ use Rattle.c_tree.specs.declared.refusal.Refusal.TheVariants as refusal
 use Rattle.c_tree.specs.declared.symbol.Symbol.{Symbol}
 use Rattle.c_tree.specs.declared.symbol.Symbol.TheVariants as s
 use Rattle.c_tree.specs.declared.token.Token.{Token}
-use Rattle.balance_cli.specs.Sources.{Accepts, Refuses, IsUnbuilt, HasNoUnit}
+use Rattle.c_parser.specs.Answers.{HasNoUnit, IsRefused, IsPlace}
+use Rattle.balance_cli.specs.Sources.{Accepts, Refuses, IsUnbuilt, misplaced, at_start}
+use Rattle.balance_cli.specs.Stages.{IsTaken}
 use Rattle.balance_cli.specs.declared.judging.Wanted.{Wanted}
 use Rattle.balance_cli.specs.declared.judging.Wanted.TheVariants.{Source, AnyText}
 
@@ -110,3 +112,33 @@ of_text laws kind text (inr stop) = inr (refusal.Lexical stop.0, stop.1)
 
 pub taken_or_refused : TextLaws → (kind : Wanted) (text : List ℕ) → ((a : PlainUnit) × Accepts text a) ⊎ ((why : Refusal) × Refuses kind text why)
 taken_or_refused laws kind text = of_text laws kind text (laws.tokens text)
+
+-- ---- what the code answers
+
+-- a text that the parser refuses, where it isn't a printed text that may not stand there
+pub refused_so : (kind : Wanted) (text : List ℕ) (why : Refusal) → length text ≤ 16777216 → misplaced kind text ≡ false → IsRefused text why → IsTaken kind text (Err why)
+refused_so kind text refusal.OutOfMemory small plain is = tt
+refused_so kind text (refusal.Lexical byte) small plain is = is.1
+refused_so Source text (refusal.Syntax byte) small plain is = inr (plain, is.1)
+refused_so AnyText text (refusal.Syntax byte) small plain is = is.1
+refused_so kind text (refusal.TextTooLong n) small plain is = absurd (omega (arith, is.0))
+refused_so kind text _ small plain is = absurd is
+
+-- and where it is one
+pub refused_at_start : (kind : Wanted) (text : List ℕ) (why : Refusal) → length text ≤ 16777216 → misplaced kind text ≡ true → IsRefused text why → IsTaken kind text (Err (at_start why))
+refused_at_start kind text refusal.OutOfMemory small printed is = tt
+refused_at_start kind text (refusal.Lexical byte) small printed is = is.1
+refused_at_start Source text (refusal.Syntax byte) small printed is = inl (record { tokens = is.1.place.tokens; are_tokens = is.1.place.are_tokens; printed = printed; at_start = refl })
+refused_at_start AnyText text (refusal.Syntax byte) small printed is = absurd (let no : ⊥ = cc in no)
+refused_at_start kind text (refusal.TextTooLong n) small printed is = absurd (omega (arith, is.0))
+refused_at_start kind text _ small printed is = absurd is
+
+-- a unit of a printed text where a source is wanted
+pub misplaced_unit : (kind : Wanted) (text : List ℕ) (a : PlainUnit) → IsText text a → misplaced kind text ≡ true → IsTaken kind text (Err (refusal.Syntax 0))
+misplaced_unit Source text a is printed = inl (record { tokens = is.tokens; are_tokens = is.are_tokens; printed = printed; at_start = refl })
+misplaced_unit AnyText text a is printed = absurd (let no : ⊥ = cc in no)
+
+-- a unit of another form
+pub unbuilt_unit : (kind : Wanted) (text : List ℕ) (a : PlainUnit) → IsText text a → misplaced kind text ≡ false → (IsOneLoop a → ⊥) → IsTaken kind text (Err refusal.Unbuilt)
+unbuilt_unit Source text a is plain other = (plain, record { unit = a; is_text = is; other = other })
+unbuilt_unit AnyText text a is plain other = record { unit = a; is_text = is; other = other }

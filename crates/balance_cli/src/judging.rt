@@ -1,9 +1,10 @@
 //! What a command takes of a text, or why it refuses it.
 
-ghost use Rattle.std.specs.Prelude.{◌≡◌, ◌≤◌, length, Ok, Err};
+ghost use Rattle.std.specs.Prelude.{◌≡◌, ◌≤◌, length, Err};
 ghost use Rattle.c_tree.specs.Trees.{unit as unit_in};
 ghost use Rattle.c_tree.specs.Grammar.Texts.{IsText};
-ghost use Rattle.balance_cli.specs.Sources.{misplaced};
+ghost use Rattle.c_parser.specs.Answers.{IsRefused};
+ghost use Rattle.balance_cli.specs.Sources.{misplaced, at_start as moved};
 ghost use Rattle.balance_cli.specs.Stages.{IsTaken};
 
 use c_parser::parse;
@@ -36,12 +37,33 @@ fn built(wanted: Wanted, text: &[u8], unit: Unit) -> Result<Unit, Refusal>
     ensures { IsTaken wanted text.now result }
 {
     if is_misplaced(wanted, text) {
-        return Err(Refusal::Syntax { byte: 0 });
-    }
-    if is_one_loop(&unit) {
+        Err(Refusal::Syntax { byte: 0 })
+    } else if is_one_loop(&unit) {
         Ok(unit)
     } else {
         Err(Refusal::Unbuilt)
+    }
+}
+
+fn at_start(refusal: Refusal) -> Refusal
+    ensures { result ≡ moved refusal }
+{
+    match refusal {
+        Refusal::Syntax { .. } => Refusal::Syntax { byte: 0 },
+        other => other,
+    }
+}
+
+// Why the command refuses a text that the parser refuses.
+fn refused(wanted: Wanted, text: &[u8], refusal: Refusal) -> Refusal
+    requires small { length text.now ≤ 16777216 }
+    requires refused { IsRefused text.now refusal }
+    ensures { IsTaken wanted text.now (Err result) }
+{
+    if is_misplaced(wanted, text) {
+        at_start(refusal)
+    } else {
+        refusal
     }
 }
 
@@ -52,7 +74,6 @@ pub fn taken(alloc: Global, wanted: Wanted, text: &[u8]) -> Result<Unit, Refusal
 {
     match parse(alloc, text) {
         Ok(unit) => built(wanted, text, unit),
-        Err(Refusal::Syntax { .. }) if is_misplaced(wanted, text) => Err(Refusal::Syntax { byte: 0 }),
-        Err(refusal) => Err(refusal),
+        Err(refusal) => Err(refused(wanted, text, refusal)),
     }
 }
