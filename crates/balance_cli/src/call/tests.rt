@@ -28,6 +28,15 @@ for (int64_t i = 0; i < n; i++)\n    \
 A[i + 1] = A[i] + 1;\n\
 }\n";
 
+// The unit of `SHIFT`, spelled otherwise.
+const SPELLED: &str = "/* a shift */ # include <stdint.h> // and no more\n\
+\t#pragma\tbalance range n 0x1 1000u // of cells\r\n\
+void shift(int64_t n, uint64_t A[(n)])\n{\n  \
+{;} for (int64_t i = 0uLL; i < n - 1; ++i) {\n    \
+{ A[(i) + 1ull] = ((A[i])) + 0X1; }\n  \
+}\n\
+}\n";
+
 // The printed text of `SHIFT`, as the rules of docs/FORMATS.md give it. It stands in examples/shift.guarded.c too.
 const PRINTED: &str = "\
 #include <stdint.h>
@@ -193,9 +202,19 @@ const BIG: Source = Source {
     length: 262_145,
 };
 
+const SPELLED_FILE: Source = Source {
+    name: "spelled.c",
+    text: SPELLED,
+    length: 0,
+};
+
 #[test]
 fn prints_the_instrumented_text(rt: HostRuntime) -> Result<(), Fail> {
-    for (source, line) in [(SHIFT_FILE, "print shift.c"), (FULL, "print full.c")] {
+    for (source, line) in [
+        (SHIFT_FILE, "print shift.c"),
+        (FULL, "print full.c"),
+        (SPELLED_FILE, "print spelled.c"),
+    ] {
         let left = call(rt.alloc(), &[source], line, NONE)?;
         assert_eq!(rt; left.status, Status::Done, "{line}");
         assert_eq!(rt; left.out.bytes.as_slice(), PRINTED.as_bytes(), "{line}");
@@ -353,6 +372,42 @@ fn ends_by_the_table(rt: HostRuntime) -> Result<(), Fail> {
         assert_eq!(rt; left.loads, loads, "{line}");
         assert_eq!(rt; left.out.bytes.as_slice(), out.as_bytes(), "{line}");
         assert_eq!(rt; left.err.bytes.as_slice(), told.as_bytes(), "{line}");
+    }
+    Ok(())
+}
+
+// Texts that aren't taken, in the file p.c, the words, and what is said of them.
+const UNTAKEN: [(&str, &str, &str); 7] = [
+    (
+        "#include <stdint.h>\n\
+#pragma balance range n 1 1000\n\
+void shift(int64_t n, uint64_t A[n]) {\n  \
+for (int64_t i = 0; i < n - 1; i++)\n    \
+A[i + 1] = A[i]",
+        "print p.c",
+        "balance: p.c: S3 Syntax at byte 147\n",
+    ),
+    ("", "print p.c", "balance: p.c: S3 Syntax at byte 0\n"),
+    ("a@b", "run p.c d1", "balance: p.c: S2 Lexical at byte 1\n"),
+    (" /* open", "try p.c d1", "balance: p.c: S2 Lexical at byte 1\n"),
+    (PRINTED, "print p.c", "balance: p.c: S3 Syntax at byte 0\n"),
+    (PRINTED, "try p.c d1", "balance: p.c: S3 Syntax at byte 0\n"),
+    (PRINTED, "run p.c d1", "balance: p.c: S0 Unbuilt\n"),
+];
+
+#[test]
+fn refuses_texts(rt: HostRuntime) -> Result<(), Fail> {
+    for (text, line, told) in UNTAKEN {
+        let source = Source {
+            name: "p.c",
+            text,
+            length: 0,
+        };
+        let left = call(rt.alloc(), &[source], line, NONE)?;
+        assert_eq!(rt; left.status, Status::SourceRefused, "{told}");
+        assert_eq!(rt; left.loads, 1, "{told}");
+        assert_eq!(rt; left.out.bytes.as_slice(), b"".as_slice(), "{told}");
+        assert_eq!(rt; left.err.bytes.as_slice(), told.as_bytes());
     }
     Ok(())
 }
