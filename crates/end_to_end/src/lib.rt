@@ -4,4 +4,6 @@
 #[cfg(test)]
 mod instruments;
 #[cfg(test)]
+mod lexes;
+#[cfg(test)]
 mod reads;
