@@ -6,6 +6,8 @@ mod copies;
 #[cfg(test)]
 mod instruments;
 #[cfg(test)]
+mod lexes;
+#[cfg(test)]
 mod reads;
 #[cfg(test)]
 mod refusals;
