@@ -88,15 +88,6 @@ few_made source made form same =
 
 -- ---- what the code makes
 
--- the parameter of this name has the number that comes next
-pub number_here : (ps : List Param) (i : ℕ) (p : Param) (other : Name) (x a b : Word) (k : ℕ) (t : Bool) → i < length ps → p ≡ get_or ps i p → p ≡ Int other → t ≡ true → t ≡ bytes_eq a b → a ≡ other.bytes → b ≡ x
-    → number_from k (map param (drop i ps)) x ≡ k
-number_here ps i p other x a b k t within is int passes test first second =
-    let same : bytes_eq other.bytes x ≡ true = ap (λ (y : Word). bytes_eq y x) (sym first) ∙ ap (bytes_eq a) (sym second) ∙ sym test ∙ passes in
-    at_drop_more (λ (qs : List Param). number_from k (map param qs) x) ps i p within
-    ∙ ap (λ (q : Param). number_from k (map param (q ∷ drop (i + 1) ps)) x) (sym is ∙ int)
-    ∙ ap (λ (y : Bool). if y then k else number_from (suc k) (map param (drop (i + 1) ps)) x) same
-
 ranges_back : (rs : List (Name × ℤ × ℤ)) → map range_in (map (λ r. (word r.0, r.1, r.2)) rs) ≡ rs
 ranges_back [] = refl
 ranges_back (r ∷ rs) = ap (λ more. r ∷ more) (ranges_back rs)

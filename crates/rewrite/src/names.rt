@@ -1,6 +1,6 @@
 //! The names that an instrumented text adds, and the numbers of a source's arrays.
 
-ghost use Rattle.std.specs.Prelude.{◌≡◌, ◌++◌, IfOk, bytes_eq, decimal};
+ghost use Rattle.std.specs.Prelude.{◌≡◌, ◌++◌, IfOk, decimal};
 ghost use Rattle.instrumentation.specs.Names as names;
 ghost use Rattle.rewrite.specs.Numbered.{numbers};
 
@@ -109,13 +109,6 @@ pub fn function_name(alloc: Global, source: &Name) -> Result<Name, OutOfMemory>
     Ok(name)
 }
 
-/// Whether two names have the same bytes.
-pub fn same_name(a: &Name, b: &Name) -> bool
-    ensures { result ≡ bytes_eq a.now.bytes b.now.bytes }
-{
-    a.bytes.as_slice() == b.bytes.as_slice()
-}
-
 /// The number of the array of this name, or of arrays where none has it.
 pub fn number_of(params: &[Param], name: &Name) -> u64
     ensures { result ≡ numbers params.now name.now.bytes }
@@ -123,7 +116,7 @@ pub fn number_of(params: &[Param], name: &Name) -> u64
     let mut number = 0;
     for p in params {
         if let Param::Array { name: array, .. } = p {
-            if same_name(array, name) {
+            if array.same(name) {
                 return number;
             }
             number += 1;

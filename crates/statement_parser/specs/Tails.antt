@@ -1,5 +1,5 @@
 -- What a check reads behind its extent.
-use Rattle.std.specs.Prelude.{List, Option, Some}
+use Rattle.std.specs.Prelude.{List, Some}
 use Rattle.c_tree.specs.Plain.{PlainExpr}
 use Rattle.c_tree.specs.declared.symbol.Symbol.TheVariants as s
 use Rattle.c_tree.specs.Grammar.Lexemes.{Lexeme}

@@ -25,7 +25,12 @@ pub fn only(alloc: Global, stmt: Stmt) -> Result<Stmts, OutOfMemory>
 
 /// The target of an assignment.
 #[tactic(auto, unfolding(grammar_reading::specs::Blocks::place))]
-fn place<'s>(alloc: Global, c: Rules, text: &[u8], ts: &'s [Terminal]) -> Result<(Box<Expr>, &'s [Terminal]), ParseError>
+fn place<'s>(
+    alloc: Global,
+    c: Rules,
+    text: &[u8],
+    ts: &'s [Terminal],
+) -> Result<(Box<Expr>, &'s [Terminal]), ParseError>
     ensures { Gives (λ x. (t.expr x.0.value, all_seen text.now x.1.now)) result (spec.place c (all_seen text.now ts.entry.now)) }
 {
     let (x, rest) = name(text, ts)?;
@@ -34,7 +39,12 @@ fn place<'s>(alloc: Global, c: Rules, text: &[u8], ts: &'s [Terminal]) -> Result
 }
 
 #[tactic(auto, unfolding(grammar_reading::specs::Blocks::assign_at))]
-pub fn assignment<'s>(alloc: Global, c: Rules, text: &[u8], ts: &'s [Terminal]) -> Result<(Stmts, &'s [Terminal]), ParseError>
+pub fn assignment<'s>(
+    alloc: Global,
+    c: Rules,
+    text: &[u8],
+    ts: &'s [Terminal],
+) -> Result<(Stmts, &'s [Terminal]), ParseError>
     ensures { Gives (λ x. (t.stmts x.0, all_seen text.now x.1.now)) result (spec.assign_at c (all_seen text.now ts.entry.now)) }
 {
     let (target, rest) = place(alloc, c, text, ts)?;

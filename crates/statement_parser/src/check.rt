@@ -49,7 +49,12 @@ fn check_body<'s>(text: &[u8], ts: &'s [Terminal]) -> Result<&'s [Terminal], Par
 }
 
 #[tactic(auto, unfolding(grammar_reading::specs::Blocks::check_middle))]
-fn check_middle<'s>(alloc: Global, c: Rules, text: &[u8], ts: &'s [Terminal]) -> Result<(Box<Expr>, &'s [Terminal]), ParseError>
+fn check_middle<'s>(
+    alloc: Global,
+    c: Rules,
+    text: &[u8],
+    ts: &'s [Terminal],
+) -> Result<(Box<Expr>, &'s [Terminal]), ParseError>
     ensures { Gives (λ x. (t.expr x.0.value, all_seen text.now x.1.now)) result (spec.check_middle c (all_seen text.now ts.entry.now)) }
 {
     let (extent, rest) = full_expression(alloc, c, text, ts)?;
@@ -59,7 +64,12 @@ fn check_middle<'s>(alloc: Global, c: Rules, text: &[u8], ts: &'s [Terminal]) ->
 
 /// A check up to its `return`, behind the parenthesis of its `if`.
 #[tactic(auto, unfolding(grammar_reading::specs::Blocks::check_front))]
-pub fn check_front<'s>(alloc: Global, c: Rules, text: &[u8], ts: &'s [Terminal]) -> Result<(Front, &'s [Terminal]), ParseError>
+pub fn check_front<'s>(
+    alloc: Global,
+    c: Rules,
+    text: &[u8],
+    ts: &'s [Terminal],
+) -> Result<(Front, &'s [Terminal]), ParseError>
     ensures { Gives (λ x. ((word_at text.now x.0.value.start x.0.value.end, t.expr x.0.extent.value), all_seen text.now x.1.now)) result (spec.check_front c (all_seen text.now ts.entry.now)) }
 {
     let (value, rest) = check_start(text, ts)?;
@@ -95,7 +105,12 @@ fn check_array<'s>(text: &[u8], ts: &'s [Terminal]) -> Result<(u32, &'s [Termina
     }
 }
 
-pub fn check_end<'s>(alloc: Global, front: Front, text: &[u8], ts: &'s [Terminal]) -> Result<(Stmts, &'s [Terminal]), ParseError>
+pub fn check_end<'s>(
+    alloc: Global,
+    front: Front,
+    text: &[u8],
+    ts: &'s [Terminal],
+) -> Result<(Stmts, &'s [Terminal]), ParseError>
     ensures { (c : Rules) → Gives (λ x. (t.stmts x.0, all_seen text.now x.1.now)) result (spec.check_end c (word_at text.now front.value.start front.value.end, t.expr front.extent.value) (all_seen text.now ts.entry.now)) }
 {
     let (array, rest) = check_array(text, ts)?;

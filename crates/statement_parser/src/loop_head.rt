@@ -31,7 +31,12 @@ pub struct Bound {
 }
 
 #[tactic(auto, unfolding(grammar_reading::specs::Blocks::for_start))]
-pub fn for_start<'s>(alloc: Global, c: Rules, text: &[u8], ts: &'s [Terminal]) -> Result<(Start, &'s [Terminal]), ParseError>
+pub fn for_start<'s>(
+    alloc: Global,
+    c: Rules,
+    text: &[u8],
+    ts: &'s [Terminal],
+) -> Result<(Start, &'s [Terminal]), ParseError>
     ensures { Gives (λ x. ((word_at text.now x.0.var.start x.0.var.end, t.expr x.0.lo.value), all_seen text.now x.1.now)) result (spec.for_start c (all_seen text.now ts.entry.now)) }
 {
     let rest = expect(Symbol::OpenParen, text, ts)?;
@@ -44,7 +49,13 @@ pub fn for_start<'s>(alloc: Global, c: Rules, text: &[u8], ts: &'s [Terminal]) -
 }
 
 #[tactic(auto, unfolding(grammar_reading::specs::Blocks::for_bound))]
-pub fn for_bound<'s>(alloc: Global, c: Rules, v: &[u8], text: &[u8], ts: &'s [Terminal]) -> Result<(Bound, &'s [Terminal]), ParseError>
+pub fn for_bound<'s>(
+    alloc: Global,
+    c: Rules,
+    v: &[u8],
+    text: &[u8],
+    ts: &'s [Terminal],
+) -> Result<(Bound, &'s [Terminal]), ParseError>
     ensures { Gives (λ x. ((x.0.rel, t.expr x.0.hi.value), all_seen text.now x.1.now)) result (spec.for_bound c v.now (all_seen text.now ts.entry.now)) }
 {
     let rest = this_name(v, text, ts)?;
@@ -62,7 +73,13 @@ pub fn for_step<'s>(v: &[u8], text: &[u8], ts: &'s [Terminal]) -> Result<&'s [Te
     expect(Symbol::CloseParen, text, rest)
 }
 
-pub fn loop_of(alloc: Global, text: &[u8], start: Start, bound: Bound, body: Stmts) -> Result<Stmts, OutOfMemory>
+pub fn loop_of(
+    alloc: Global,
+    text: &[u8],
+    start: Start,
+    bound: Bound,
+    body: Stmts,
+) -> Result<Stmts, OutOfMemory>
     ensures { IfOk result (λ list. t.stmts list ≡ one (plain.loop (word_at text.now start.var.start start.var.end) (t.expr start.lo.value) bound.rel (t.expr bound.hi.value) (t.stmts body))) }
 {
     let var = name_of(alloc, word(text, start.var.start, start.var.end))?;

@@ -22,7 +22,13 @@ use std::alloc::Global;
 /// high.
 #[cycle(statements)]
 #[tactic(auto, unfolding(grammar_reading::specs::Blocks::simple))]
-pub fn unbraced<'s>(alloc: Global, c: Rules, depth: usize, text: &[u8], ts: &'s [Terminal]) -> Result<(Stmts, &'s [Terminal]), ParseError>
+pub fn unbraced<'s>(
+    alloc: Global,
+    c: Rules,
+    depth: usize,
+    text: &[u8],
+    ts: &'s [Terminal],
+) -> Result<(Stmts, &'s [Terminal]), ParseError>
     ensures { Gives (λ x. (t.stmts x.0, all_seen text.now x.1.now)) result (spec.simple c depth (all_seen text.now ts.entry.now)) }
 {
     if depth > 0 {
@@ -35,7 +41,13 @@ pub fn unbraced<'s>(alloc: Global, c: Rules, depth: usize, text: &[u8], ts: &'s 
 /// A statement that is no block, with statements in it that are at most `depth` high.
 #[cycle(statements)]
 #[tactic(auto, unfolding(grammar_reading::specs::Blocks::stmt_at))]
-fn by_front<'s>(alloc: Global, c: Rules, depth: usize, text: &[u8], ts: &'s [Terminal]) -> Result<(Stmts, &'s [Terminal]), ParseError>
+fn by_front<'s>(
+    alloc: Global,
+    c: Rules,
+    depth: usize,
+    text: &[u8],
+    ts: &'s [Terminal],
+) -> Result<(Stmts, &'s [Terminal]), ParseError>
     ensures { Gives (λ x. (t.stmts x.0, all_seen text.now x.1.now)) result (spec.stmt_at c (spec.body (spec.simple c depth) c.turns) (all_seen text.now ts.entry.now)) }
 {
     match ts {
@@ -46,7 +58,14 @@ fn by_front<'s>(alloc: Global, c: Rules, depth: usize, text: &[u8], ts: &'s [Ter
 }
 
 #[cycle(statements)]
-fn by_symbol<'s>(alloc: Global, c: Rules, depth: usize, first: Symbol, text: &[u8], ts: &'s [Terminal]) -> Result<(Stmts, &'s [Terminal]), ParseError>
+fn by_symbol<'s>(
+    alloc: Global,
+    c: Rules,
+    depth: usize,
+    first: Symbol,
+    text: &[u8],
+    ts: &'s [Terminal],
+) -> Result<(Stmts, &'s [Terminal]), ParseError>
     ensures { Gives (λ x. (t.stmts x.0, all_seen text.now x.1.now)) result (spec.by_sign c (spec.body (spec.simple c depth) c.turns) first (all_seen text.now ts.entry.now)) }
 {
     match first {
@@ -59,7 +78,13 @@ fn by_symbol<'s>(alloc: Global, c: Rules, depth: usize, first: Symbol, text: &[u
 
 #[cycle(statements)]
 #[tactic(auto, unfolding(grammar_reading::specs::Blocks::for_at))]
-fn for_loop<'s>(alloc: Global, c: Rules, depth: usize, text: &[u8], ts: &'s [Terminal]) -> Result<(Stmts, &'s [Terminal]), ParseError>
+fn for_loop<'s>(
+    alloc: Global,
+    c: Rules,
+    depth: usize,
+    text: &[u8],
+    ts: &'s [Terminal],
+) -> Result<(Stmts, &'s [Terminal]), ParseError>
     ensures { Gives (λ x. (t.stmts x.0, all_seen text.now x.1.now)) result (spec.for_at c (spec.body (spec.simple c depth) c.turns) (all_seen text.now ts.entry.now)) }
 {
     let (start, rest) = for_start(alloc, c, text, ts)?;
@@ -72,7 +97,13 @@ fn for_loop<'s>(alloc: Global, c: Rules, depth: usize, text: &[u8], ts: &'s [Ter
 
 #[cycle(statements)]
 #[tactic(auto, unfolding(grammar_reading::specs::Blocks::if_at))]
-fn if_or_check<'s>(alloc: Global, c: Rules, depth: usize, text: &[u8], ts: &'s [Terminal]) -> Result<(Stmts, &'s [Terminal]), ParseError>
+fn if_or_check<'s>(
+    alloc: Global,
+    c: Rules,
+    depth: usize,
+    text: &[u8],
+    ts: &'s [Terminal],
+) -> Result<(Stmts, &'s [Terminal]), ParseError>
     ensures { Gives (λ x. (t.stmts x.0, all_seen text.now x.1.now)) result (spec.if_at c (spec.body (spec.simple c depth) c.turns) (all_seen text.now ts.entry.now)) }
 {
     let rest = expect(Symbol::OpenParen, text, ts)?;
@@ -89,7 +120,13 @@ fn if_or_check<'s>(alloc: Global, c: Rules, depth: usize, text: &[u8], ts: &'s [
 /// An `if`, behind its opening parenthesis.
 #[cycle(statements)]
 #[tactic(auto, unfolding(grammar_reading::specs::Blocks::if_plain))]
-fn choice<'s>(alloc: Global, c: Rules, depth: usize, text: &[u8], ts: &'s [Terminal]) -> Result<(Stmts, &'s [Terminal]), ParseError>
+fn choice<'s>(
+    alloc: Global,
+    c: Rules,
+    depth: usize,
+    text: &[u8],
+    ts: &'s [Terminal],
+) -> Result<(Stmts, &'s [Terminal]), ParseError>
     ensures { Gives (λ x. (t.stmts x.0, all_seen text.now x.1.now)) result (spec.if_plain c (spec.body (spec.simple c depth) c.turns) (all_seen text.now ts.entry.now)) }
 {
     let (tests, rest) = conds(alloc, c, text, ts)?;
@@ -100,7 +137,15 @@ fn choice<'s>(alloc: Global, c: Rules, depth: usize, text: &[u8], ts: &'s [Termi
 
 /// The `else` of an `if`, where there is one.
 #[cycle(statements)]
-fn other_part<'s>(alloc: Global, c: Rules, depth: usize, tests: Tests, then: Stmts, text: &[u8], ts: &'s [Terminal]) -> Result<(Stmts, &'s [Terminal]), ParseError>
+fn other_part<'s>(
+    alloc: Global,
+    c: Rules,
+    depth: usize,
+    tests: Tests,
+    then: Stmts,
+    text: &[u8],
+    ts: &'s [Terminal],
+) -> Result<(Stmts, &'s [Terminal]), ParseError>
     ensures { Gives (λ x. (t.stmts x.0, all_seen text.now x.1.now)) result (spec.else_by c (spec.body (spec.simple c depth) c.turns) (t.tests tests) (t.stmts then) (all_seen text.now ts.entry.now) (reading.expect s.Else (all_seen text.now ts.entry.now))) }
 {
     match after(Symbol::Else, text, ts) {
@@ -117,7 +162,13 @@ fn other_part<'s>(alloc: Global, c: Rules, depth: usize, tests: Tests, then: Stm
 
 /// A statement, at most `depth` high: the list that it stands for.
 #[cycle(statements)]
-pub fn statement<'s>(alloc: Global, c: Rules, depth: usize, text: &[u8], ts: &'s [Terminal]) -> Result<(Stmts, &'s [Terminal]), ParseError>
+pub fn statement<'s>(
+    alloc: Global,
+    c: Rules,
+    depth: usize,
+    text: &[u8],
+    ts: &'s [Terminal],
+) -> Result<(Stmts, &'s [Terminal]), ParseError>
     ensures { Gives (λ x. (t.stmts x.0, all_seen text.now x.1.now)) result (spec.body (spec.simple c depth) c.turns (all_seen text.now ts.entry.now)) }
 {
     match after(Symbol::OpenBrace, text, ts) {
@@ -129,7 +180,13 @@ pub fn statement<'s>(alloc: Global, c: Rules, depth: usize, text: &[u8], ts: &'s
 /// The statements of a block, from behind its opening brace, and what follows its closing one. They
 /// are at most `depth` high.
 #[cycle(statements)]
-pub fn block<'s>(alloc: Global, c: Rules, depth: usize, text: &[u8], ts: &'s [Terminal]) -> Result<(Stmts, &'s [Terminal]), ParseError>
+pub fn block<'s>(
+    alloc: Global,
+    c: Rules,
+    depth: usize,
+    text: &[u8],
+    ts: &'s [Terminal],
+) -> Result<(Stmts, &'s [Terminal]), ParseError>
     ensures { Gives (λ x. (t.stmts x.0, all_seen text.now x.1.now)) result (spec.inside (spec.simple c depth) c.turns 0 no_stmts (all_seen text.now ts.entry.now)) }
 {
     let mut list = Items::new(alloc);

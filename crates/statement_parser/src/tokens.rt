@@ -24,14 +24,24 @@ pub fn name<'s>(text: &[u8], ts: &'s [Terminal]) -> Result<(Span, &'s [Terminal]
     ensures { Gives (λ x. (word_at text.now x.0.start x.0.end, all_seen text.now x.1.now)) result (spec.name_at (all_seen text.now ts.entry.now)) }
 {
     match ts {
-        [Terminal::Name(start, end), rest @ ..] => Ok((Span { start: *start, end: *end }, rest)),
+        [Terminal::Name(start, end), rest @ ..] => Ok((
+            Span {
+                start: *start,
+                end: *end,
+            },
+            rest,
+        )),
         _ => Err(ParseError::Syntax(ts.len())),
     }
 }
 
 /// The tokens after this name, if it comes first.
 #[tactic(auto, unfolding(grammar_reading::specs::Blocks::this_name, grammar_reading::specs::Blocks::name_at))]
-pub fn this_name<'s>(v: &[u8], text: &[u8], ts: &'s [Terminal]) -> Result<&'s [Terminal], ParseError>
+pub fn this_name<'s>(
+    v: &[u8],
+    text: &[u8],
+    ts: &'s [Terminal],
+) -> Result<&'s [Terminal], ParseError>
     ensures { Gives (λ x. all_seen text.now x.now) result (spec.this_name v.now (all_seen text.now ts.entry.now)) }
 {
     let (found, rest) = name(text, ts)?;
@@ -44,7 +54,11 @@ pub fn this_name<'s>(v: &[u8], text: &[u8], ts: &'s [Terminal]) -> Result<&'s [T
 
 /// The tokens after this literal, if it comes first.
 #[tactic(auto, unfolding(grammar_reading::specs::Blocks::this_number))]
-pub fn this_number<'s>(n: u64, text: &[u8], ts: &'s [Terminal]) -> Result<&'s [Terminal], ParseError>
+pub fn this_number<'s>(
+    n: u64,
+    text: &[u8],
+    ts: &'s [Terminal],
+) -> Result<&'s [Terminal], ParseError>
     ensures { Gives (λ x. all_seen text.now x.now) result (spec.this_number n (all_seen text.now ts.entry.now)) }
 {
     let (found, rest) = number(text, ts)?;
@@ -73,7 +87,10 @@ fn set_op(mark: Symbol) -> Option<Option<BinOp>>
 
 /// What the mark of assignment that comes first does before it assigns.
 #[tactic(auto, unfolding(grammar_reading::specs::Blocks::set_at))]
-pub fn set_mark<'s>(text: &[u8], ts: &'s [Terminal]) -> Result<(Option<BinOp>, &'s [Terminal]), ParseError>
+pub fn set_mark<'s>(
+    text: &[u8],
+    ts: &'s [Terminal],
+) -> Result<(Option<BinOp>, &'s [Terminal]), ParseError>
     ensures { Gives (λ x. (x.0, all_seen text.now x.1.now)) result (spec.set_at (all_seen text.now ts.entry.now)) }
 {
     match ts {

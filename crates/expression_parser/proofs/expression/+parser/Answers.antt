@@ -2,6 +2,7 @@ use Rattle.std.proofs.Common.{rules, arith, ◌≡◌, ℕ, List, length, ◌+�
 use Rattle.std.proofs.lemmas.Grind.{common_steps}
 use Rattle.c_tree.specs.Plain.{PlainExpr, PlainExprs}
 use Rattle.c_tree.specs.Trees as t
+use Rattle.c_tree.proofs.Equations.{expr-Cast}
 use Rattle.c_tree.specs.Grammar.Lexemes.{Lexeme}
 use Rattle.expression_parser.specs.Terminals.{all_seen}
 use Rattle.c_tree.specs.declared.symbol.Symbol.TheVariants as s
@@ -114,4 +115,5 @@ grouped-lone-requires w c = (search (rules, at_most), deep c.args.c c.args.depth
 pub lone-returns : goal.lone-returns
 lone-returns w c =
     let e = lower_is c.args.c c.args.depth c.requires in
+    let whole = expr-Cast c.in_ok-u.u.tree in
     first_of (search rules, grind (arith, common_steps))

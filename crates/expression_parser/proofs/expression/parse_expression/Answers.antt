@@ -1,6 +1,7 @@
-use Rattle.std.proofs.Common.{◌≡◌, [], subst, sym, ◌∙◌, arith, length, ◌+◌, ◌≤◌, ℕ, Bool, true, false}
+use Rattle.std.proofs.Common.{◌≡◌, [], Some, subst, sym, ap, ◌∙◌, arith, length, ◌+◌, ◌≤◌, ℕ, Bool, true, false}
 use Rattle.std.proofs.lemmas.List.{length-map}
 use Rattle.std.proofs.lemmas.Result.{err_from_is_err_and}
+use Rattle.c_tree.specs.declared.expr.Expr.{Expr}
 use Rattle.c_tree.specs.Trees as t
 use Rattle.expression_parser.specs.Terminals.{all_seen, seen}
 use Rattle.c_tree.specs.Grammar.Expressions.{limit, IsLow}
@@ -21,13 +22,15 @@ some_result p m e = omega (arith, some_limit p)
 
 pub returns-clause-found : goal.returns-clause-found
 returns-clause-found c =
-    subst (λ m. IsLow c.args.printed m 1 (all_seen c.args.text.now c.args.ts.now) (t.expr c.into_inner.result) []) c.limit.ensures
-      (whole_sound (rules_of c.args.printed c.limit.result (length c.args.ts.now + 1)) (some_result c.args.printed c.limit.result c.limit.ensures) (all_seen c.args.text.now c.args.ts.now) (t.expr c.into_inner.result) c.in_ok-built.ensures)
+    let read = whole_sound (rules_of c.args.printed c.limit.result (length c.args.ts.now + 1)) (some_result c.args.printed c.limit.result c.limit.ensures) (all_seen c.args.text.now c.args.ts.now) (t.expr c.in_ok-built.built.tree.value) c.in_ok-built.ensures in
+    subst (λ (e : Expr). IsLow c.args.printed (limit c.args.printed) 1 (all_seen c.args.text.now c.args.ts.now) (t.expr e) []) (sym c.into_inner.ensures)
+      (subst (λ m. IsLow c.args.printed m 1 (all_seen c.args.text.now c.args.ts.now) (t.expr c.in_ok-built.built.tree.value) []) c.limit.ensures read)
 
 pub returns-clause-only : goal.returns-clause-only
 returns-clause-only c = λ u is.
     sym (whole_complete (rules_of c.args.printed c.limit.result (length c.args.ts.now + 1)) (all_seen c.args.text.now c.args.ts.now) u (omega (arith, length-map c.args.ts.now (seen c.args.text.now)))
-      (subst (λ m. IsLow c.args.printed m 1 (all_seen c.args.text.now c.args.ts.now) u []) (sym c.limit.ensures) is)) ∙ c.in_ok-built.ensures
+      (subst (λ m. IsLow c.args.printed m 1 (all_seen c.args.text.now c.args.ts.now) u []) (sym c.limit.ensures) is))
+    ∙ c.in_ok-built.ensures ∙ ap (λ (e : Expr). Some (t.expr e)) (sym c.into_inner.ensures)
 
 pub returns-in_err-built-clause-only : goal.returns-in_err-built-clause-only
 returns-in_err-built-clause-only c =
