@@ -3,3 +3,6 @@ pub mod Lists
 pub mod Extents
 pub mod Pairs
 pub mod Fronts
+pub mod StmtLists
+pub mod Tables
+pub mod Printed

@@ -9,7 +9,7 @@ abbrev pub lexeme : List ℕ → Wanted → Lexeme
 lexeme text (f.Mark j) = symbol j
 lexeme text (f.Number n) = number n
 lexeme text (f.Word x) = name x.now
-lexeme text (f.Name start end) = name (word_at text start end)
+lexeme text (f.Name place) = name (word_at text place.start place.end)
 lexeme text (f.Total front a) = name (front.now ++ decimal a)
 
 abbrev pub lexemes : List ℕ → List Wanted → List Lexeme

@@ -9,12 +9,13 @@ ghost use Rattle.grammar_reading.specs.HeadReading as heads;
 ghost use Rattle.grammar_reading.specs.UnitReading as spec;
 ghost use Rattle.c_parser.specs.Seen as seen;
 
-use crate::steps::{begins, name};
+use crate::steps::begins;
 use crate::wanted::{Wanted, fixed};
 use c_tree::{Name, NameList, Symbol, Words};
 use expression_parser::{ParseError, Terminal, after, expect, name_of, number, word};
 use grammar_reading::Rules;
 use sqlite_items::Items;
+use statement_parser::name;
 use std::alloc::Global;
 
 /// Whether a declaration of a word begins here. A table begins with `uint64_t` too, and goes on with
@@ -34,12 +35,13 @@ fn begins_word(text: &[u8], ts: &[Terminal]) -> bool
 fn declaration<'s>(alloc: Global, text: &[u8], ts: &'s [Terminal]) -> Result<((Name, u64), &'s [Terminal]), ParseError>
     ensures { Gives (λ x. (seen.declaration x.0, all_seen text.now x.1.now)) result (spec.declaration_at (all_seen text.now ts.entry.now)) }
 {
-    let variable = expect(Symbol::Uint64, text, ts)?;
-    let ((start, end), assigned) = name(text, variable)?;
-    let value = expect(Symbol::Assign, text, assigned)?;
-    let (n, close) = number(text, value)?;
-    let rest = expect(Symbol::Semicolon, text, close)?;
-    Ok(((name_of(alloc, word(text, start, end))?, n), rest))
+    let rest = expect(Symbol::Uint64, text, ts)?;
+    let (place, rest) = name(text, rest)?;
+    let rest = expect(Symbol::Assign, text, rest)?;
+    let (n, rest) = number(text, rest)?;
+    let rest = expect(Symbol::Semicolon, text, rest)?;
+    let declared = name_of(alloc, word(text, place.start, place.end))?;
+    Ok(((declared, n), rest))
 }
 
 /// All declarations of words.
@@ -65,11 +67,17 @@ pub fn words<'s>(alloc: Global, c: Rules, text: &[u8], ts: &'s [Terminal]) -> Re
 fn wide<'s>(alloc: Global, text: &[u8], ts: &'s [Terminal]) -> Result<(Name, &'s [Terminal]), ParseError>
     ensures { Gives (λ x. (t.word x.0, all_seen text.now x.1.now)) result (heads.wide_at (all_seen text.now ts.entry.now)) }
 {
-    let variable = fixed(&[Wanted::Mark(Symbol::Unsigned), Wanted::Mark(Symbol::Int128)], text, ts)?;
-    let ((start, end), assigned) = name(text, variable)?;
-    let zero = [Wanted::Mark(Symbol::Assign), Wanted::Number(0), Wanted::Mark(Symbol::Semicolon)];
-    let rest = fixed(&zero, text, assigned)?;
-    Ok((name_of(alloc, word(text, start, end))?, rest))
+    let front = [Wanted::Mark(Symbol::Unsigned), Wanted::Mark(Symbol::Int128)];
+    let zero = [
+        Wanted::Mark(Symbol::Assign),
+        Wanted::Number(0),
+        Wanted::Mark(Symbol::Semicolon),
+    ];
+    let rest = fixed(&front, text, ts)?;
+    let (place, rest) = name(text, rest)?;
+    let rest = fixed(&zero, text, rest)?;
+    let declared = name_of(alloc, word(text, place.start, place.end))?;
+    Ok((declared, rest))
 }
 
 /// All declarations of wide words.

@@ -4,15 +4,15 @@ ghost use Rattle.std.specs.Prelude.{◌≡◌, [], map};
 ghost use Rattle.c_tree.specs.Trees as t;
 ghost use Rattle.expression_parser.specs.Terminals.{all_seen};
 ghost use Rattle.expression_parser.specs.Outcome.{Gives};
-ghost use Rattle.grammar_reading.specs.Blocks as blocks;
 ghost use Rattle.grammar_reading.specs.HeadReading as heads;
 ghost use Rattle.grammar_reading.specs.UnitReading as spec;
 
-use crate::steps::{begins, name};
-use c_tree::{Expr, Exprs, Name, Param, Params, Symbol};
-use expression_parser::{ParseError, Terminal, after, expect, name_of, side, word};
+use crate::steps::{begins, spelled_name};
+use c_tree::{Expr, Exprs, Param, Params, Symbol};
+use expression_parser::{ParseError, Terminal, after, expect, full_expression, name_of, word};
 use grammar_reading::Rules;
 use sqlite_items::Items;
+use statement_parser::name;
 use std::alloc::Global;
 
 /// `[n + 1]`
@@ -20,10 +20,10 @@ use std::alloc::Global;
 fn extent<'s>(alloc: Global, c: Rules, text: &[u8], ts: &'s [Terminal]) -> Result<(Expr, &'s [Terminal]), ParseError>
     ensures { Gives (λ x. (t.expr x.0, all_seen text.now x.1.now)) result (heads.dim c (all_seen text.now ts.entry.now)) }
 {
-    let inside = expect(Symbol::OpenBracket, text, ts)?;
-    let (extent, close) = side(alloc, c, text, inside)?;
-    let rest = expect(Symbol::CloseBracket, text, close)?;
-    Ok((extent, rest))
+    let rest = expect(Symbol::OpenBracket, text, ts)?;
+    let (extent, rest) = full_expression(alloc, c, text, rest)?;
+    let rest = expect(Symbol::CloseBracket, text, rest)?;
+    Ok((Box::into_inner(extent), rest))
 }
 
 /// One to three extents.
@@ -50,27 +50,26 @@ fn extents<'s>(alloc: Global, c: Rules, text: &[u8], ts: &'s [Terminal]) -> Resu
 fn array<'s>(alloc: Global, c: Rules, constant: bool, text: &[u8], ts: &'s [Terminal]) -> Result<(Param, &'s [Terminal]), ParseError>
     ensures { Gives (λ x. (t.param x.0, all_seen text.now x.1.now)) result (heads.array_at c constant (all_seen text.now ts.entry.now)) }
 {
-    let variable = expect(Symbol::Uint64, text, ts)?;
-    let ((start, end), open) = name(text, variable)?;
-    let (extents, rest) = extents(alloc, c, text, open)?;
-    let name = name_of(alloc, word(text, start, end))?;
-    Ok((Param::Array { name, constant, extents }, rest))
-}
-
-/// `int64_t n`, behind its type.
-fn int<'s>(alloc: Global, text: &[u8], ts: &'s [Terminal]) -> Result<(Name, &'s [Terminal]), ParseError>
-    ensures { Gives (λ x. (t.word x.0, all_seen text.now x.1.now)) result (blocks.name_at (all_seen text.now ts.entry.now)) }
-{
-    let ((start, end), rest) = name(text, ts)?;
-    Ok((name_of(alloc, word(text, start, end))?, rest))
+    let rest = expect(Symbol::Uint64, text, ts)?;
+    let (place, rest) = name(text, rest)?;
+    let (extents, rest) = extents(alloc, c, text, rest)?;
+    let name = name_of(alloc, word(text, place.start, place.end))?;
+    Ok((
+        Param::Array {
+            name,
+            constant,
+            extents,
+        },
+        rest,
+    ))
 }
 
 #[tactic(auto, unfolding(grammar_reading::specs::HeadReading::param_at))]
 fn param<'s>(alloc: Global, c: Rules, text: &[u8], ts: &'s [Terminal]) -> Result<(Param, &'s [Terminal]), ParseError>
     ensures { Gives (λ x. (t.param x.0, all_seen text.now x.1.now)) result (heads.param_at c (all_seen text.now ts.entry.now)) }
 {
-    if let Some(variable) = after(Symbol::Int64, text, ts) {
-        let (name, rest) = int(alloc, text, variable)?;
+    if let Some(rest) = after(Symbol::Int64, text, ts) {
+        let (name, rest) = spelled_name(alloc, text, rest)?;
         return Ok((Param::Int(name), rest));
     }
     match after(Symbol::Const, text, ts) {

@@ -7,11 +7,12 @@ ghost use Rattle.grammar_reading.specs.HeadReading as heads;
 ghost use Rattle.grammar_reading.specs.UnitReading as spec;
 ghost use Rattle.c_parser.specs.Seen as seen;
 
-use crate::steps::{begins, name, this_name};
+use crate::steps::begins;
 use c_tree::{Name, Ranges, Symbol};
 use expression_parser::{ParseError, Terminal, after, expect, name_of, number, word};
 use grammar_reading::Rules;
 use sqlite_items::Items;
+use statement_parser::{name, this_name};
 use std::alloc::Global;
 
 /// A literal as a whole number.
@@ -38,7 +39,7 @@ fn minus<'s>(text: &[u8], ts: &'s [Terminal]) -> Result<(i64, &'s [Terminal]), P
     }
 }
 
-/// A whole number of a range.
+/// An end of a range.
 #[tactic(auto, unfolding(grammar_reading::specs::HeadReading::int_at))]
 fn int<'s>(text: &[u8], ts: &'s [Terminal]) -> Result<(i64, &'s [Terminal]), ParseError>
     ensures { Gives (λ x. (x.0, all_seen text.now x.1.now)) result (heads.int_at (all_seen text.now ts.entry.now)) }
@@ -54,17 +55,18 @@ fn int<'s>(text: &[u8], ts: &'s [Terminal]) -> Result<(i64, &'s [Terminal]), Par
 fn range<'s>(alloc: Global, text: &[u8], ts: &'s [Terminal]) -> Result<((Name, i64, i64), &'s [Terminal]), ParseError>
     ensures { Gives (λ x. (seen.range x.0, all_seen text.now x.1.now)) result (heads.range_at (all_seen text.now ts.entry.now)) }
 {
-    let line = expect(Symbol::Directive, text, ts)?;
-    let parameter = this_name(b"range", text, line)?;
-    let ((start, end), bounds) = name(text, parameter)?;
-    let (lowest, second) = int(text, bounds)?;
-    let (highest, close) = int(text, second)?;
-    let rest = expect(Symbol::EndLine, text, close)?;
-    Ok(((name_of(alloc, word(text, start, end))?, lowest, highest), rest))
+    let rest = expect(Symbol::Directive, text, ts)?;
+    let rest = this_name(b"range", text, rest)?;
+    let (place, rest) = name(text, rest)?;
+    let (lowest, rest) = int(text, rest)?;
+    let (highest, rest) = int(text, rest)?;
+    let rest = expect(Symbol::EndLine, text, rest)?;
+    let parameter = name_of(alloc, word(text, place.start, place.end))?;
+    Ok(((parameter, lowest, highest), rest))
 }
 
 /// All range lines.
-#[tactic(auto, using(crate::proofs::Lists::many_ends, crate::proofs::Lists::many_stops, crate::proofs::Lists::many_goes_on, crate::proofs::Lists::many_out))]
+#[tactic(auto, using(crate::proofs::Lists::many_ends, crate::proofs::Lists::many_stops, crate::proofs::Lists::many_out))]
 pub fn ranges<'s>(alloc: Global, c: Rules, text: &[u8], ts: &'s [Terminal]) -> Result<(Ranges, &'s [Terminal]), ParseError>
     ensures { Gives (λ x. (seen.ranges x.0, all_seen text.now x.1.now)) result (spec.ranges c.turns [] (all_seen text.now ts.entry.now)) }
 {

@@ -7,10 +7,10 @@ ghost use Rattle.grammar_reading.specs.Blocks as blocks;
 ghost use Rattle.grammar_reading.specs.HeadReading as spec;
 ghost use Rattle.c_parser.specs.Wanted.{lexeme, lexemes};
 
-use crate::steps::{name, this_name, this_number};
 use c_tree::Symbol;
 use expression_parser::{ParseError, Terminal, expect, word};
 use itoa::Buffer;
+use statement_parser::{Span, name, this_name, this_number};
 
 /// A token that a rule names.
 #[derive(Clone, Copy)]
@@ -19,7 +19,7 @@ pub enum Wanted {
     Number(u64),
     Word(&'static [u8]),
     /// The name at this place of the text.
-    Name(u32, u32),
+    Name(Span),
     /// A name that ends with an array's number.
     Total(&'static [u8], u64),
 }
@@ -41,8 +41,8 @@ fn is_numbered(word: &[u8], front: &[u8], number: u64) -> bool
 fn this_total<'s>(front: &[u8], array: u64, text: &[u8], ts: &'s [Terminal]) -> Result<&'s [Terminal], ParseError>
     ensures { Gives (λ r. all_seen text.now r.now) result (blocks.this_name (front.now ++ decimal array) (all_seen text.now ts.entry.now)) }
 {
-    let ((start, end), rest) = name(text, ts)?;
-    if is_numbered(word(text, start, end), front, array) {
+    let (place, rest) = name(text, ts)?;
+    if is_numbered(word(text, place.start, place.end), front, array) {
         Ok(rest)
     } else {
         Err(ParseError::Syntax(ts.len()))
@@ -58,7 +58,7 @@ impl Wanted {
             Wanted::Mark(symbol) => expect(symbol, text, ts),
             Wanted::Number(n) => this_number(n, text, ts),
             Wanted::Word(wanted) => this_name(wanted, text, ts),
-            Wanted::Name(start, end) => this_name(word(text, start, end), text, ts),
+            Wanted::Name(place) => this_name(word(text, place.start, place.end), text, ts),
             Wanted::Total(front, array) => this_total(front, array, text, ts),
         }
     }
