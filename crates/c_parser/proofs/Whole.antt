@@ -1,5 +1,5 @@
 -- The whole text: what is read is allowed and spelled so, what is allowed and spelled so is read, and a text has one unit.
-use Rattle.std.proofs.Common.{◌≡◌, ℕ, List, ◌++◌, Some, None, refl, sym, ap, ◌∙◌, subst}
+use Rattle.std.proofs.Common.{◌≡◌, ◌⊎◌, ℕ, List, ◌++◌, Option, Some, None, inl, inr, refl, sym, ap, ◌∙◌, subst}
 use Rattle.std.proofs.lemmas.Option.{same_Some, cond_some}
 use Rattle.c_tree.specs.Plain.{PlainUnit}
 use Rattle.c_tree.specs.OneLoop.{OneLoop, IsAllowed, unit_of}
@@ -94,3 +94,11 @@ one_unit text u v p q =
 -- where nothing is read, the text is of no unit
 pub read_none : (text : List ℕ) → read text ≡ None → (u : PlainUnit) → IsOneLoopText text u → ⊥
 read_none text h u is = let e = sym h ∙ read-text text u is in let no : ⊥ = cc in no
+
+-- whether a text has a unit is decided by reading it
+pub unit_or_none : (text : List ℕ) → ((u : PlainUnit) × IsOneLoopText text u) ⊎ ((u : PlainUnit) → IsOneLoopText text u → ⊥)
+unit_or_none text = by (read text) refl
+  where
+    by : (r : Option OneLoop) → read text ≡ r → ((u : PlainUnit) × IsOneLoopText text u) ⊎ ((u : PlainUnit) → IsOneLoopText text u → ⊥)
+    by (Some l) h = inl (unit_of l, read_is text l h)
+    by None h = inr (read_none text h)

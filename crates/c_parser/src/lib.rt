@@ -42,3 +42,9 @@ pub fn parse(alloc: Global, text: &[u8]) -> Result<Unit, Refusal>
 pub fn one_unit()
     ensures { (text : List ℕ) (u v : PlainUnit) → IsOneLoopText text u → IsOneLoopText text v → u ≡ v }
 {}
+
+/// A text has a unit or has none.
+pub fn unit_or_none()
+    ensures { (text : List ℕ) → length text ≤ 16777216
+        → ((u : PlainUnit) × IsOneLoopText text u) ⊎ ((u : PlainUnit) → IsOneLoopText text u → ⊥) }
+{}
