@@ -1,6 +1,7 @@
 pub mod Clauses
 pub mod Endings
 pub mod Framed
+pub mod Heads
 pub mod Named
 pub mod Parts
 pub mod Pieces
