@@ -145,14 +145,14 @@ not_both file long short limit above one within two =
 abbrev pub IsJudgedOnce : Type 0
 IsJudgedOnce = (text : List ℕ) (u v : PlainUnit) → Accepts text u → Accepts text v → u ≡ v
 
--- a data text is read by the head of a unit of the one-loop form
-abbrev pub HasFrames : Plan → Type 0
-HasFrames (load word name limit next) = (bytes : List ℕ) → HasFrames (next bytes)
-HasFrames (judge text next) = (unit : PlainUnit) → Accepts text unit → HasFrames (next unit)
-HasFrames (read head text next) = IsOneLoop head × ((inputs : PlainInputs) → HasFrames (next inputs))
-HasFrames (print_unit source) = Unit {0}
-HasFrames (run_unit source inputs) = Unit {0}
-HasFrames (try_unit source inputs) = Unit {0}
+-- a source text is within the parser's limit, and a unit is of the one-loop form
+abbrev pub HasForms : Plan → Type 0
+HasForms (load word name limit next) = (bytes : List ℕ) → length bytes ≤ limit → HasForms (next bytes)
+HasForms (judge text next) = (length text ≤ 16777216) × ((unit : PlainUnit) → Accepts text unit → HasForms (next unit))
+HasForms (print_unit source) = IsOneLoop source
+HasForms (read head text next) = IsOneLoop head × ((inputs : PlainInputs) → HasForms (next inputs))
+HasForms (run_unit source inputs) = Unit {0}
+HasForms (try_unit source inputs) = IsOneLoop source
 
 not_an_error : {E : Type 0} (i : Inputs) (e : E) → Ok i ≡ Err e → ⊥
 not_an_error i e same = cc
@@ -181,7 +181,7 @@ tried_once source inputs o p one two =
     one.finish ∙ ap (λ u. finish_of (run u inputs None).verdict) (one.made ∙ sym two.made) ∙ sym two.finish
 
 -- over files that are told a plan ends as defined, but for faults and want of memory
-pub determined : IsJudgedOnce → HasOneAnswer → (plan : Plan) (files : List (List ℕ × List ℕ)) (rose : Type 0) (names : List (List ℕ)) (outcome ideal : Result Output Stop) → HasFrames plan → IsCalmFor ideal rose → Ends plan (Some files) rose names outcome → Defined plan (Some files) ideal → (ideal_status outcome ≡ ideal_status ideal) ⊎ (outcome ≡ Err NoMemory)
+pub determined : IsJudgedOnce → HasOneAnswer → (plan : Plan) (files : List (List ℕ × List ℕ)) (rose : Type 0) (names : List (List ℕ)) (outcome ideal : Result Output Stop) → HasForms plan → IsCalmFor ideal rose → Ends plan (Some files) rose names outcome → Defined plan (Some files) ideal → (ideal_status outcome ≡ ideal_status ideal) ⊎ (outcome ≡ Err NoMemory)
 unfolding Ends Defined
 determined once answer (load word name limit next) files rose names outcome ideal forms calm (inl h) d = inr h.1
 determined once answer (load word name limit next) files rose names outcome ideal forms calm (inr (inl h)) d = inl (ap ideal_status h.1 ∙ fault_as_ideal word rose ideal calm h.2)
@@ -195,14 +195,14 @@ determined once answer (load word name limit next) files rose names outcome idea
 determined once answer (load word name limit next) files rose names outcome ideal forms calm (inr (inr (inr h))) (inr (inr d)) =
     let same : d.0 ≡ h.0 = same_Some d.0 h.0 (sym d.2 ∙ h.3) in
     let P : List ℕ → Type 0 = λ b. Defined (next b) (Some files) ideal in
-    determined once answer (next h.0) files rose h.1 outcome ideal (forms h.0) calm h.5 (subst P same d.3)
+    determined once answer (next h.0) files rose h.1 outcome ideal (forms h.0 h.2) calm h.5 (subst P same d.3)
 determined once answer (judge text next) files rose names outcome ideal forms calm (inl h) d = inr h.1
 determined once answer (judge text next) files rose names outcome ideal forms calm (inr (inl h)) (inl d) = inl (ap ideal_status h.3 ∙ ap ideal_status (sym d.2))
 determined once answer (judge text next) files rose names outcome ideal forms calm (inr (inl h)) (inr d) = absurd (judged_once text d.0 h.0 d.1 h.1)
 determined once answer (judge text next) files rose names outcome ideal forms calm (inr (inr h)) (inl d) = absurd (judged_once text h.0 d.0 h.1 d.1)
 determined once answer (judge text next) files rose names outcome ideal forms calm (inr (inr h)) (inr d) =
     let P : PlainUnit → Type 0 = λ u. Defined (next u) (Some files) ideal in
-    determined once answer (next h.0) files rose names outcome ideal (forms h.0 h.1) calm h.2 (subst P (once text d.0 h.0 d.1 h.1) d.2)
+    determined once answer (next h.0) files rose names outcome ideal (forms.1 h.0 h.1) calm h.2 (subst P (once text d.0 h.0 d.1 h.1) d.2)
 determined once answer (print_unit source) files rose names outcome ideal forms calm (e, inl h) d =
     inl (ap ideal_status h.2 ∙ ap finish_status (h.1.done ∙ sym d.1.done) ∙ ap ideal_status (sym d.2))
 determined once answer (print_unit source) files rose names outcome ideal forms calm (e, inr h) d = inr h

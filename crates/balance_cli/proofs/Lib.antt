@@ -8,4 +8,5 @@ pub mod Pieces
 pub mod Plans
 pub mod Powers
 pub mod Shown
+pub mod SomeEnding
 pub mod Unchecked

@@ -109,6 +109,15 @@ Defined (read head text next) files outcome =
 Defined (run_unit source inputs) files outcome = (output : Output) × IsRun source inputs output × (outcome ≡ Ok output)
 Defined (try_unit source inputs) files outcome = (output : Output) × IsTried source inputs output × (outcome ≡ Ok output)
 
+-- every stage passes: each file is there and within its limit, and each text is accepted or means inputs
+unfoldable pub Passes : Plan → Files → Type 0
+Passes (load word name limit next) files = (bytes : List ℕ) × (length bytes ≤ limit) × IsFile files name bytes × Passes (next bytes) files
+Passes (judge text next) files = (unit : PlainUnit) × Accepts text unit × Passes (next unit) files
+Passes (print_unit source) files = Unit {0}
+Passes (read head text next) files = (inputs : PlainInputs) × IsMeant head text inputs × Passes (next inputs) files
+Passes (run_unit source inputs) files = Unit {0}
+Passes (try_unit source inputs) files = Unit {0}
+
 -- the stages before this load pass
 unfoldable pub Reaches : Plan → Files → FileWord → Type 0
 Reaches (load word name limit next) files at =
