@@ -4,6 +4,7 @@ use super::balance;
 use crate::status::Status;
 use edge::{ByteList, FileList, MemShelf, MemSink, NamedFile, Numbers};
 use std::alloc::{AllocError, Global};
+use std::process::Abort;
 use std::test::Fail;
 
 const SHIFT: &str = "#include <stdint.h>\n\
@@ -27,17 +28,66 @@ for (int64_t i = 0; i < n; i++)\n    \
 A[i + 1] = A[i] + 1;\n\
 }\n";
 
-// How the printed text of `SHIFT` begins.
-const FIRST_LINES: &str = "#include <stdint.h>\n\
-#include <stdlib.h>\n\
-static inline uint64_t umin(uint64_t a, uint64_t b) { return a < b ? a : b; }\n\
-static inline uint64_t umax(uint64_t a, uint64_t b) { return a < b ? b : a; }\n\
-static inline int64_t bal_min(int64_t a, int64_t b) { return a < b ? a : b; }\n\
-static inline int64_t bal_max(int64_t a, int64_t b) { return a < b ? b : a; }\n\
-static inline unsigned __int128 bal_wide(uint64_t h, uint64_t l) { return (unsigned __int128)h << 64 | l; }\n\
-#pragma balance version 1\n\
-#pragma balance range n 1 1000\n\
-uint64_t bal_fn_shift(int64_t n, uint64_t A[n]) {\n";
+// The printed text of `SHIFT`, as the rules of docs/FORMATS.md give it. It stands in examples/shift.guarded.c too.
+const PRINTED: &str = "\
+#include <stdint.h>
+#include <stdlib.h>
+static inline uint64_t umin(uint64_t a, uint64_t b) { return a < b ? a : b; }
+static inline uint64_t umax(uint64_t a, uint64_t b) { return a < b ? b : a; }
+static inline int64_t bal_min(int64_t a, int64_t b) { return a < b ? a : b; }
+static inline int64_t bal_max(int64_t a, int64_t b) { return a < b ? b : a; }
+static inline unsigned __int128 bal_wide(uint64_t h, uint64_t l) { return (unsigned __int128)h << 64 | l; }
+#pragma balance version 1
+#pragma balance range n 1 1000
+uint64_t bal_fn_shift(int64_t n, uint64_t A[n]) {
+  uint64_t bal_r0 = 0ull;
+  uint64_t bal_w = 0ull;
+  uint64_t bal_c0 = 0ull;
+  uint64_t bal_c1 = 0ull;
+  unsigned __int128 bal_k = 0;
+  unsigned __int128 bal_def0 = 0;
+  unsigned __int128 bal_use0 = 0;
+  for (int64_t bal_i0 = 0; bal_i0 < n; bal_i0++) {
+    bal_r0 = A[bal_i0];
+    bal_c0 = 1ull;
+    bal_c1 = 0ull;
+    for (int64_t bal_l0 = 0; bal_l0 < n - 1; bal_l0++) {
+      if (bal_l0 == bal_i0) {
+        bal_c1 += bal_c0;
+      }
+      if (bal_l0 + 1 == bal_i0) {
+        bal_c0 = 0ull;
+      }
+    }
+    bal_k = (unsigned __int128)bal_c1;
+    bal_def0 += (unsigned __int128)bal_r0 * bal_k;
+  }
+#pragma balance begin
+  for (int64_t i = 0; i < n - 1; i++) {
+    bal_r0 = A[i];
+    bal_use0 += (unsigned __int128)bal_r0;
+    bal_w = bal_r0 + 1ull;
+    A[i + 1] = bal_w;
+    bal_c0 = 0ull;
+    bal_c1 = 0ull;
+    for (int64_t bal_l0 = 0; bal_l0 < n - 1; bal_l0++) {
+      if (bal_l0 == i + 1) {
+        bal_c1 += bal_c0;
+      }
+      if (bal_l0 + 1 == i + 1) {
+        if (bal_l0 == i) {
+          bal_c0 = 1ull;
+        } else {
+          bal_c0 = 0ull;
+        }
+      }
+    }
+    bal_k = (unsigned __int128)bal_c1;
+    bal_def0 += (unsigned __int128)bal_w * bal_k;
+  }
+  return (uint64_t)(bal_def0 != bal_use0) << 0;
+}
+";
 
 const USAGE: &str =
     "balance: usage: print [--split] SOURCE | run FILE DATA [FLIP] | try SOURCE DATA [FLIP] | report SOURCE | demo NUMBER\n";
@@ -50,13 +100,15 @@ struct Source {
     length: usize,
 }
 
-// Which load, which write to the output and which to the error stream fails. 0 is none. A write takes `most` bytes.
+// Which load, which write to the output and which to the error stream fails. 0 is none. A write takes at most `most`
+// bytes, and the output `room` in all.
 #[derive(Clone, Copy)]
 struct Failing {
     load: u64,
     write: u64,
     line: u64,
     most: usize,
+    room: usize,
 }
 
 const NONE: Failing = Failing {
@@ -64,6 +116,7 @@ const NONE: Failing = Failing {
     write: 0,
     line: 0,
     most: 8,
+    room: 9999,
 };
 
 // What a call leaves.
@@ -107,7 +160,7 @@ fn call(alloc: Global, named: &[Source], line: &str, failing: Failing) -> Result
     let mut shelf = MemShelf::new(alloc, files, one_number(alloc, failing.load)?);
     let mut out = MemSink::new(
         alloc,
-        9999,
+        failing.room,
         std::cmp::max(1, failing.most),
         one_number(alloc, failing.write)?,
     )?;
@@ -145,13 +198,7 @@ fn prints_the_instrumented_text(rt: HostRuntime) -> Result<(), Fail> {
     for (source, line) in [(SHIFT_FILE, "print shift.c"), (FULL, "print full.c")] {
         let left = call(rt.alloc(), &[source], line, NONE)?;
         assert_eq!(rt; left.status, Status::Done, "{line}");
-        assert!(rt;
-            left.out
-                .bytes
-                .as_slice()
-                .starts_with(FIRST_LINES.as_bytes()),
-            "{line}"
-        );
+        assert_eq!(rt; left.out.bytes.as_slice(), PRINTED.as_bytes(), "{line}");
         assert_eq!(rt; left.err.bytes.as_slice(), b"".as_slice(), "{line}");
     }
     Ok(())
@@ -416,33 +463,47 @@ fn stops_at_a_second_load_that_fails(rt: HostRuntime) -> Result<(), Fail> {
     Ok(())
 }
 
+// The call ends with a write fault, and this many bytes of its output are there.
+fn stops_within(
+    rt: &impl Abort,
+    alloc: Global,
+    failing: Failing,
+    length: usize,
+) -> Result<(), Fail> {
+    let files = [SHIFT_FILE, data_file(D1)];
+    let left = call(alloc, &files, "try shift.c d1", failing)?;
+    let whole = BALANCED.as_bytes();
+    assert_eq!(rt; left.status, Status::WriteFault, "{length} bytes");
+    assert_eq!(rt;
+        left.out.bytes.as_slice(),
+        &whole[..whole.len().min(length)]
+    );
+    assert_eq!(rt;
+        left.err.bytes.as_slice(),
+        b"balance: cannot write\n".as_slice()
+    );
+    Ok(())
+}
+
 #[test]
 fn writes_a_prefix_where_a_write_fails(rt: HostRuntime) -> Result<(), Fail> {
-    for (most, writes) in [(1, 21), (8, 3)] {
+    for (most, writes) in [(1usize, 21u64), (8, 3)] {
         for whole in 0..writes {
             let failing = Failing {
                 write: whole + 1,
                 most,
                 ..NONE
             };
-            let left = call(
+            stops_within(
+                &rt,
                 rt.alloc(),
-                &[SHIFT_FILE, data_file(D1)],
-                "try shift.c d1",
                 failing,
+                most.saturating_mul(whole as usize),
             )?;
-            let out = left.out.bytes.as_slice();
-            assert_eq!(rt; left.status, Status::WriteFault, "{whole} writes");
-            assert!(rt; BALANCED.as_bytes().starts_with(out), "{whole} writes");
-            assert!(rt;
-                out.len() <= most.saturating_mul(whole as usize),
-                "{whole} writes"
-            );
-            assert_eq!(rt;
-                left.err.bytes.as_slice(),
-                b"balance: cannot write\n".as_slice()
-            );
         }
+    }
+    for room in 0..BALANCED.len() {
+        stops_within(&rt, rt.alloc(), Failing { room, ..NONE }, room)?;
     }
     Ok(())
 }
