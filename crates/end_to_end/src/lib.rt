@@ -1,4 +1,4 @@
-//! Tests that go across crates: texts that are read, refused and instrumented.
+//! Tests that go across crates: texts that are read, refused, instrumented and run.
 #![tactic(auto)]
 
 #[cfg(test)]
