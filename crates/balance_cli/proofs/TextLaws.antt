@@ -31,6 +31,29 @@ pub record TextLaws : Type 0 where
   pub units : (text : List ℕ) → ((a : PlainUnit) × IsText text a) ⊎ ((a : PlainUnit) → IsText text a → ⊥)
   pub forms : (a : PlainUnit) → IsOneLoop a ⊎ (IsOneLoop a → ⊥)
 
+-- ---- a text has a unit, or none, as its tokens do
+
+-- the tokens have a unit, or none
+abbrev HasUnitOrNone : List Lexeme → Type 0
+HasUnitOrNone ts = ((a : PlainUnit) × IsUnit ts a) ⊎ ((a : PlainUnit) → IsUnit ts a → ⊥)
+
+abbrev HasTextOrNone : List ℕ → Type 0
+HasTextOrNone text = ((a : PlainUnit) × IsText text a) ⊎ ((a : PlainUnit) → IsText text a → ⊥)
+
+abbrev OneList : Type 0
+OneList = (text : List ℕ) (ts us : List Token) → AreTokens text ts → AreTokens text us → ts ≡ us
+
+of_one_list : OneList → (text : List ℕ) (ts : List Token) → AreTokens text ts → HasUnitOrNone (lexemes text ts) → HasTextOrNone text
+of_one_list one text ts are (inl some) = inl (some.0, record { tokens = ts; are_tokens = are; is_unit = some.1 })
+of_one_list one text ts are (inr none) = inr (λ a d. none a (subst (λ (us : List Token). IsUnit (lexemes text us) a) (one text d.tokens ts d.are_tokens are) d.is_unit))
+
+of_reading : ((text : List ℕ) (ts : List Token) (byte : ℕ) → AreTokens text ts → StopsAt text byte → ⊥) → OneList → ((ts : List Lexeme) → HasUnitOrNone ts) → (text : List ℕ) → ((ts : List Token) × AreTokens text ts) ⊎ ((byte : ℕ) × StopsAt text byte) → HasTextOrNone text
+of_reading apart one units text (inl tokens) = of_one_list one text tokens.0 tokens.1 (units (lexemes text tokens.0))
+of_reading apart one units text (inr stop) = inr (λ a d. apart text d.tokens stop.0 d.are_tokens stop.1)
+
+pub units_of : ((text : List ℕ) → ((ts : List Token) × AreTokens text ts) ⊎ ((byte : ℕ) × StopsAt text byte)) → ((text : List ℕ) (ts : List Token) (byte : ℕ) → AreTokens text ts → StopsAt text byte → ⊥) → OneList → ((ts : List Lexeme) → HasUnitOrNone ts) → (text : List ℕ) → HasTextOrNone text
+units_of tokens apart one units text = of_reading apart one units text (tokens text)
+
 is_preamble : Symbol → Bool
 is_preamble s.Preamble = true
 is_preamble _ = false

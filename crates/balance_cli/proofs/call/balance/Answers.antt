@@ -1,4 +1,5 @@
 use Rattle.balance_cli.proofs.Clauses.{caused, misused_only, misused, asked, complete, determined_end}
+use Rattle.balance_cli.proofs.TextLaws.{units_of}
 use Rattle.balance_cli.proofs.call.balance.Goals as goal
 
 pub returns-clause-cause : goal.returns-clause-cause
@@ -19,7 +20,7 @@ returns-clause-complete g c = complete (record {
     once = c.one_unit.ensures;
     apart = c.one_reading.ensures.not_both;
     tokens = c.one_reading.ensures.tokens_or_stop;
-    units = c.unit_or_none.ensures;
+    units = units_of c.one_reading.ensures.tokens_or_stop c.one_reading.ensures.not_both c.one_reading.ensures.one_list c.unit_or_none.ensures;
     forms = c.one_loop_or_not.ensures;
   };
   one_answer = c.one_answer.ensures;
@@ -35,7 +36,7 @@ returns-clause-determined g c = determined_end (record {
     once = c.one_unit.ensures;
     apart = c.one_reading.ensures.not_both;
     tokens = c.one_reading.ensures.tokens_or_stop;
-    units = c.unit_or_none.ensures;
+    units = units_of c.one_reading.ensures.tokens_or_stop c.one_reading.ensures.not_both c.one_reading.ensures.one_list c.unit_or_none.ensures;
     forms = c.one_loop_or_not.ensures;
   };
   one_answer = c.one_answer.ensures;
