@@ -4,10 +4,10 @@
 # - With the values of examples/shift.data it prints the cells and the returned word.
 # - With each size up to 200 and cells of a generator it leaves what the source leaves, and returns 0.
 # - With one bit of one cell inverted before an access, by a line that is put into the text, it returns what is wanted.
-# The argument is the program, if it isn't where the build leaves it.
+# The argument is the program, if it isn't where `make build` leaves it.
 set -eu
 cd "$(dirname "$0")/.."
-program=${1:-$PWD/crates/balance_cli/out/balance_cli}
+program=${1:-$PWD/bin/balance}
 work=$(mktemp -d)
 trap 'rm -rf "$work"' EXIT
 

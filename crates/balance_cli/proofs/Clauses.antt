@@ -195,7 +195,7 @@ determined_end laws (Some order) m ends called = λ files told.
       defined = some.1;
       ends = λ outcome defined calm.
           ended order m ends called.answer.outcome outcome calm called.answer.ending
-              (agrees laws order files m called.answer.outcome outcome called.answer.follows told defined calm);
+          (agrees laws order files m called.answer.outcome outcome called.answer.follows told defined calm);
     }
 
 -- an outcome that agrees with a text is a text that is written whole, or memory is wanting

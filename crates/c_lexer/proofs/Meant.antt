@@ -182,7 +182,7 @@ means_all_as text v e (Err byte) m = record {
   place = m.at;
 }
 
-preamble_fits : (text : Text) → is_printed text ≡ true → length preamble + length (drop (length preamble) text) ≡ length text
+pub preamble_fits : (text : Text) → is_printed text ≡ true → length preamble + length (drop (length preamble) text) ≡ length text
 preamble_fits text h = sym (ap length (starts_split preamble text h) ∙ length-append preamble (drop (length preamble) text))
 
 pub means_all : (text : Text) → MeansAll text (tokens_of text)

@@ -1,11 +1,13 @@
 -- The loop over a text, a turn at a time.
-use Rattle.std.proofs.Common.{◌≡◌, ℕ, zero, suc, ◌+◌, ◌-◌, ◌<◌, ◌≤◌, Bool, List, [], ◌∷◌, ◌++◌, length, take, drop, Ok, Err, refl, sym, ap, ◌∙◌, arith, append_assoc, drop-cons, length-drop, drop-drop, take_all}
+use Rattle.std.proofs.Common.{◌≡◌, ℕ, zero, suc, ◌+◌, ◌-◌, ◌<◌, ◌≤◌, Bool, true, false, cond, List, [], ◌∷◌, ◌++◌, length, take, drop, Ok, Err, refl, sym, ap, ◌∙◌, arith, append_assoc, drop-cons, length-drop, drop-drop, take_all}
 use Rattle.c_tree.specs.declared.token.Token.{Token}
-use Rattle.c_tree.specs.Grammar.Tokens.{Text}
+use Rattle.c_tree.specs.Layout.{preamble}
+use Rattle.c_tree.specs.Grammar.Tokens.{Text, is_printed}
 use Rattle.c_lexer.specs.declared.line.Line.{Line}
+use Rattle.c_lexer.specs.declared.line.Line.TheVariants.{Fresh}
 use Rattle.c_lexer.specs.declared.line.Piece.TheVariants.{Nothing}
 use Rattle.c_lexer.specs.declared.line.Step.{Step}
-use Rattle.c_lexer.specs.Reading.{Reading, behind_tokens, step, tokens_by, tokens_from}
+use Rattle.c_lexer.specs.Reading.{Reading, behind_tokens, step, tokens_by, tokens_from, preamble_token, tokens_of}
 
 pub behind_more : (found ts : List Token) (r : Reading) → behind_tokens found (behind_tokens ts r) ≡ behind_tokens (found ++ ts) r
 behind_more found ts (Ok us) = ap (λ (x : List Token). Ok x) (sym (append_assoc found ts us))
@@ -45,3 +47,11 @@ pub fails : (p : Bool) (line : Line) (text : Text) (at : ℕ) (s : Step) (found 
 fails p line text at s found lt h is =
     let e : s ≡ step p line (drop at text) = h ∙ ap (step p line) (tail_is text at) in
     ap (behind_tokens found) (turn p line text at lt ∙ ap (λ (k : Step). tokens_by at k.piece (λ left. tokens_from p k.line left (suc at) (drop (suc at) text))) (sym e) ∙ ap (λ k. tokens_by at k (λ left. tokens_from p s.line left (suc at) (drop (suc at) text))) is)
+
+-- the tokens behind the preamble
+pub printed_is : (text first : Text) (found : List Token) → is_printed text ≡ true → first ≡ preamble → found ≡ preamble_token ∷ [] → behind_tokens found (tokens_from true Fresh 0 (length first) (drop (length first) text)) ≡ tokens_of text
+unfolding tokens_of
+printed_is text first found p f t =
+    ap (λ (z : Text). behind_tokens found (tokens_from true Fresh 0 (length z) (drop (length z) text))) f
+    ∙ ap (λ ts. behind_tokens ts (tokens_from true Fresh 0 (length preamble) (drop (length preamble) text))) t
+    ∙ ap (λ v. cond v (behind_tokens (preamble_token ∷ []) (tokens_from true Fresh 0 (length preamble) (drop (length preamble) text))) (tokens_from false Fresh 0 0 text)) (sym p)

@@ -1,24 +1,14 @@
 //! The loop over a text.
 
 ghost use Rattle.std.specs.Prelude.{◌≡◌, ◌+◌, ◌≤◌, drop, length};
-ghost use Rattle.c_tree.specs.Layout.{preamble};
 ghost use Rattle.c_lexer.specs.Reading as spec;
 ghost use Rattle.c_lexer.specs.Agrees.{Agrees};
 
 use crate::fault::LexFault;
 use crate::line::{Line, Piece};
 use crate::step::step;
-use c_tree::{Token, TokenKind, Tokens};
+use c_tree::{Token, TokenKind, Tokens, is_printed, preamble};
 use std::alloc::Global;
-
-const PREAMBLE: &[u8] =
-    b"#include <stdint.h>\n#include <stdlib.h>\nstatic inline uint64_t umin(uint64_t a, uint64_t b) { return a < b ? a : b; }\nstatic inline uint64_t umax(uint64_t a, uint64_t b) { return a < b ? b : a; }\nstatic inline int64_t bal_min(int64_t a, int64_t b) { return a < b ? a : b; }\nstatic inline int64_t bal_max(int64_t a, int64_t b) { return a < b ? b : a; }\nstatic inline unsigned __int128 bal_wide(uint64_t h, uint64_t l) { return (unsigned __int128)h << 64 | l; }\n";
-
-fn preamble() -> &'static [u8]
-    ensures { result.now ≡ preamble }
-{
-    PREAMBLE
-}
 
 fn make_token(kind: TokenKind, start: usize, n: usize) -> Token
     requires { start + n ≤ 16777216 }
@@ -64,12 +54,11 @@ pub fn read(alloc: Global, text: &[u8]) -> Result<Tokens, LexFault>
     requires { length text.now ≤ 16777216 }
     ensures { Agrees (spec.tokens_of text.now) result }
 {
-    let first = preamble();
     let mut tokens = Tokens::new(alloc);
-    if text.starts_with(first) {
-        tokens.push(make_token(TokenKind::Preamble, 0, first.len()))?;
-        read_from(tokens, true, first.len(), text)
-    } else {
-        read_from(tokens, false, 0, text)
+    if !is_printed(text) {
+        return read_from(tokens, false, 0, text);
     }
+    let behind = preamble().len();
+    tokens.push(make_token(TokenKind::Preamble, 0, behind))?;
+    read_from(tokens, true, behind, text)
 }

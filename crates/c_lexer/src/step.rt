@@ -10,8 +10,8 @@ use crate::line::{Line, Over, Piece, Step};
 use crate::literal::literal;
 use crate::mark::mark_piece;
 use crate::over::{is_gap, passed_len};
-use crate::word::{is_digit, is_word_byte, word_len, word_run};
-use c_tree::TokenKind;
+use crate::word::{is_digit, word_len, word_run};
+use c_tree::{TokenKind, is_word_byte};
 
 fn longest(printed: bool) -> usize
     ensures { result ≡ spec.longest printed }

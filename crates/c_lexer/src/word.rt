@@ -5,22 +5,12 @@ ghost use Rattle.c_tree.specs.Reserved as names;
 ghost use Rattle.text_pieces.specs.Fronts.{run};
 ghost use Rattle.c_lexer.specs.Reading as spec;
 
-fn is_letter(b: u8) -> bool
-    ensures { result ≡ names.is_letter b }
-{
-    matches!(b, b'A'..=b'Z' | b'a'..=b'z' | b'_')
-}
+use c_tree::is_word_byte;
 
 pub fn is_digit(b: u8) -> bool
     ensures { result ≡ names.is_digit b }
 {
     b.is_ascii_digit()
-}
-
-pub fn is_word_byte(b: u8) -> bool
-    ensures { result ≡ names.is_word_byte b }
-{
-    is_letter(b) || is_digit(b)
 }
 
 /// How many letters, digits and `_` stand at the front.

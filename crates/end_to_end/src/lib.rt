@@ -1,10 +1,12 @@
-//! Tests that go across crates: texts that are read, refused and instrumented.
+//! Tests that go across crates: texts that are read, refused, instrumented and run.
 #![tactic(auto)]
 
 #[cfg(test)]
 mod copies;
 #[cfg(test)]
 mod instruments;
+#[cfg(test)]
+mod lexes;
 #[cfg(test)]
 mod reads;
 #[cfg(test)]

@@ -44,9 +44,17 @@ pub fn leaf(alloc: Global, tree: Expr) -> Result<Built, OutOfMemory>
 
 /// A tree whose highest part is `below` high, if the text may have one so high.
 #[tactic(auto, unfolding(grammar_reading::specs::Reading::node))]
-pub fn node<'s>(alloc: Global, c: Rules, tree: Expr, below: u16, text: &[u8], rest: &'s [Terminal]) -> Result<(Built, &'s [Terminal]), ParseError>
+pub fn node<'s>(
+    alloc: Global,
+    c: Rules,
+    tree: Expr,
+    below: u16,
+    text: &[u8],
+    rest: &'s [Terminal],
+) -> Result<(Built, &'s [Terminal]), ParseError>
     requires { Expressions.height (t.expr tree) ≡ below + 1 }
-    ensures { Gives (λ x. (t.expr x.0.tree.value, all_seen text.now x.1.now)) result (spec.node c (t.expr tree) (all_seen text.now rest.entry.now)) }
+    ensures { Gives (λ x. (t.expr x.0.tree.value, all_seen text.now x.1.now)) result
+        (spec.node c (t.expr tree) (all_seen text.now rest.entry.now)) }
 {
     let tree = Box::new(alloc, tree)?;
     if below >= c.limit {
@@ -63,8 +71,18 @@ pub fn variable(alloc: Global, x: &[u8]) -> Result<Built, OutOfMemory>
     leaf(alloc, Expr::Var(name))
 }
 
-pub fn binary<'s>(alloc: Global, c: Rules, op: BinOp, a: Built, b: Built, text: &[u8], rest: &'s [Terminal]) -> Result<(Built, &'s [Terminal]), ParseError>
-    ensures { Gives (λ x. (t.expr x.0.tree.value, all_seen text.now x.1.now)) result (spec.node c (plain.bin op (t.expr a.tree.value) (t.expr b.tree.value)) (all_seen text.now rest.entry.now)) }
+pub fn binary<'s>(
+    alloc: Global,
+    c: Rules,
+    op: BinOp,
+    a: Built,
+    b: Built,
+    text: &[u8],
+    rest: &'s [Terminal],
+) -> Result<(Built, &'s [Terminal]), ParseError>
+    ensures { Gives (λ x. (t.expr x.0.tree.value, all_seen text.now x.1.now)) result
+        (spec.node c (plain.bin op (t.expr a.tree.value) (t.expr b.tree.value))
+        (all_seen text.now rest.entry.now)) }
 {
     let below = a.height.max(b.height);
     node(alloc, c, Expr::Bin(op, a.tree, b.tree), below, text, rest)
@@ -101,8 +119,18 @@ pub fn allowed(c: Rules, k: Two) -> bool
 }
 
 #[tactic(auto, using(crate::proofs::RowLemmas::called_height))]
-pub fn call<'s>(alloc: Global, c: Rules, k: Two, a: Built, b: Built, text: &[u8], rest: &'s [Terminal]) -> Result<(Built, &'s [Terminal]), ParseError>
-    ensures { Gives (λ x. (t.expr x.0.tree.value, all_seen text.now x.1.now)) result (spec.node c (tables.called (call_of k) (t.expr a.tree.value) (t.expr b.tree.value)) (all_seen text.now rest.entry.now)) }
+pub fn call<'s>(
+    alloc: Global,
+    c: Rules,
+    k: Two,
+    a: Built,
+    b: Built,
+    text: &[u8],
+    rest: &'s [Terminal],
+) -> Result<(Built, &'s [Terminal]), ParseError>
+    ensures { Gives (λ x. (t.expr x.0.tree.value, all_seen text.now x.1.now)) result
+        (spec.node c (tables.called (call_of k) (t.expr a.tree.value) (t.expr b.tree.value))
+        (all_seen text.now rest.entry.now)) }
 {
     let below = a.height.max(b.height);
     node(alloc, c, called(k, a.tree, b.tree), below, text, rest)
@@ -127,7 +155,10 @@ pub fn no_trees(alloc: Global) -> Row
 
 #[tactic(auto, using(crate::proofs::RowLemmas::exprs_push, crate::proofs::RowLemmas::heights_push))]
 pub fn with_one_more(row: Row, u: Built) -> Result<Row, ParseError>
-    ensures { MatchResult result (λ new. t.exprs new.trees ≡ joined (t.exprs row.trees) (plain.more_exprs (t.expr u.tree.value) plain.no_exprs)) (λ e. e ≡ ParseError.Memory) }
+    ensures { MatchResult result
+        (λ new. t.exprs new.trees
+        ≡ joined (t.exprs row.trees) (plain.more_exprs (t.expr u.tree.value) plain.no_exprs))
+        (λ e. e ≡ ParseError.Memory) }
 {
     let Row { mut trees, height } = row;
     let height = height.max(u.height);
@@ -135,8 +166,16 @@ pub fn with_one_more(row: Row, u: Built) -> Result<Row, ParseError>
     Ok(Row { trees, height })
 }
 
-pub fn cell<'s>(alloc: Global, c: Rules, x: &[u8], us: Row, text: &[u8], rest: &'s [Terminal]) -> Result<(Built, &'s [Terminal]), ParseError>
-    ensures { Gives (λ r. (t.expr r.0.tree.value, all_seen text.now r.1.now)) result (spec.node c (plain.cell x.now (t.exprs us.trees)) (all_seen text.now rest.entry.now)) }
+pub fn cell<'s>(
+    alloc: Global,
+    c: Rules,
+    x: &[u8],
+    us: Row,
+    text: &[u8],
+    rest: &'s [Terminal],
+) -> Result<(Built, &'s [Terminal]), ParseError>
+    ensures { Gives (λ r. (t.expr r.0.tree.value, all_seen text.now r.1.now)) result
+        (spec.node c (plain.cell x.now (t.exprs us.trees)) (all_seen text.now rest.entry.now)) }
 {
     let name = name_of(alloc, x)?;
     node(alloc, c, Expr::Cell(name, us.trees), us.height, text, rest)

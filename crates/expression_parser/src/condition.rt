@@ -26,8 +26,19 @@ struct Found {
 }
 
 #[tactic(auto, using(crate::proofs::Seeks::none_found))]
-fn seek<'s>(alloc: Global, c: Rules, depth: usize, count: usize, first: Built, text: &[u8], ts: &'s [Terminal]) -> Result<(Found, &'s [Terminal]), ParseError>
-    ensures { Gives (λ x. ((x.0.held, x.0.rel, t.expr x.0.left.value), all_seen text.now x.1.now)) result (spec.seek c (spec.expr c depth) count (t.expr first.tree.value) (all_seen text.now ts.entry.now)) }
+fn seek<'s>(
+    alloc: Global,
+    c: Rules,
+    depth: usize,
+    count: usize,
+    first: Built,
+    text: &[u8],
+    ts: &'s [Terminal],
+) -> Result<(Found, &'s [Terminal]), ParseError>
+    ensures { Gives
+        (λ x. ((x.0.held, x.0.rel, t.expr x.0.left.value), all_seen text.now x.1.now)) result
+        (spec.seek c (spec.expr c depth) count (t.expr first.tree.value)
+        (all_seen text.now ts.entry.now)) }
 {
     let mut left = first;
     let mut rest = ts;
@@ -35,7 +46,14 @@ fn seek<'s>(alloc: Global, c: Rules, depth: usize, count: usize, first: Built, t
         let (a, behind) = climb(alloc, c, depth, 4, left, text, rest)?;
         if let Some((rel, second)) = front_rel(text, behind) {
             let held = count - turn;
-            return Ok((Found { held, rel, left: a.tree }, second));
+            return Ok((
+                Found {
+                    held,
+                    rel,
+                    left: a.tree,
+                },
+                second,
+            ));
         }
         let (u, after) = close(alloc, c, depth, a, text, behind)?;
         left = u;
@@ -43,28 +61,46 @@ fn seek<'s>(alloc: Global, c: Rules, depth: usize, count: usize, first: Built, t
     }
     let (a, behind) = climb(alloc, c, depth, 4, left, text, rest)?;
     match front_rel(text, behind) {
-        Some((rel, second)) => Ok((Found { held: 0, rel, left: a.tree }, second)),
+        Some((rel, second)) => Ok((
+            Found {
+                held: 0,
+                rel,
+                left: a.tree,
+            },
+            second,
+        )),
         None => Err(ParseError::Syntax(behind.len())),
     }
 }
 
 #[tactic(auto, unfolding(grammar_reading::specs::Reading::compare))]
-fn compare<'s>(alloc: Global, c: Rules, text: &[u8], ts: &'s [Terminal]) -> Result<((usize, (Rel, Expr, Expr)), &'s [Terminal]), ParseError>
-    ensures { Gives (λ x. ((x.0.0, t.a_test x.0.1), all_seen text.now x.1.now)) result (spec.compare c (all_seen text.now ts.entry.now)) }
+fn compare<'s>(
+    alloc: Global,
+    c: Rules,
+    text: &[u8],
+    ts: &'s [Terminal],
+) -> Result<((usize, (Rel, Expr, Expr)), &'s [Terminal]), ParseError>
+    ensures { Gives (λ x. ((x.0.0, t.a_test x.0.1), all_seen text.now x.1.now)) result
+        (spec.compare c (all_seen text.now ts.entry.now)) }
 {
     let depth = usize::from(c.limit);
     let (count, inside) = opens(text, ts);
     let (first, after) = operand(alloc, c, depth, text, inside)?;
     let (found, second) = seek(alloc, c, depth, count, first, text, after)?;
     let (b, rest) = expression(alloc, c, depth, 4, text, second)?;
-    let test = (found.rel, Box::into_inner(found.left), Box::into_inner(b.tree));
+    let test = (
+        found.rel,
+        Box::into_inner(found.left),
+        Box::into_inner(b.tree),
+    );
     Ok(((found.held, test), rest))
 }
 
 /// As many of the open parentheses as close here.
 fn shut<'s>(text: &[u8], held: usize, ts: &'s [Terminal]) -> (usize, &'s [Terminal])
     ensures count { result.0 ≡ (spec.shut held (all_seen text.now ts.entry.now)).0 }
-    ensures behind { all_seen text.now result.1.now ≡ (spec.shut held (all_seen text.now ts.entry.now)).1 }
+    ensures behind { all_seen text.now result.1.now
+        ≡ (spec.shut held (all_seen text.now ts.entry.now)).1 }
 {
     let mut left = held;
     let mut rest = ts;
@@ -79,8 +115,14 @@ fn shut<'s>(text: &[u8], held: usize, ts: &'s [Terminal]) -> (usize, &'s [Termin
 }
 
 /// A condition.
-pub fn conds<'s>(alloc: Global, c: Rules, text: &[u8], ts: &'s [Terminal]) -> Result<(Tests, &'s [Terminal]), ParseError>
-    ensures { Gives (λ x. (t.tests x.0, all_seen text.now x.1.now)) result (spec.conds c c.turns 0 [] (all_seen text.now ts.entry.now)) }
+pub fn conds<'s>(
+    alloc: Global,
+    c: Rules,
+    text: &[u8],
+    ts: &'s [Terminal],
+) -> Result<(Tests, &'s [Terminal]), ParseError>
+    ensures { Gives (λ x. (t.tests x.0, all_seen text.now x.1.now)) result
+        (spec.conds c c.turns 0 [] (all_seen text.now ts.entry.now)) }
 {
     let mut tests = Items::new(alloc);
     let mut held = 0;

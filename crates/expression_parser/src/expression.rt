@@ -1,6 +1,6 @@
 //! Expressions and conditions.
 
-ghost use Rattle.std.specs.Prelude.{[], None, ◌≡◌, ◌+◌, ◌≤◌, ◌<◌, ℕ, List, length, IfOk, IfSome, Some, option_map, MatchOption};
+ghost use Rattle.std.specs.Prelude.{◌≡◌, ◌<◌, ℕ, [], Some, None, IfOk};
 ghost use Rattle.c_tree.specs.Plain.{PlainExpr};
 ghost use Rattle.c_tree.specs.Trees as t;
 ghost use Rattle.expression_parser.specs.Terminals.{all_seen, word_at};
@@ -31,8 +31,16 @@ fn whole(alloc: Global, c: Rules, text: &[u8], ts: &[Terminal]) -> Result<Built,
 /// An expression whose operators bind at least so tightly. `depth` bounds the height of the tree.
 #[cycle(parser)]
 #[tactic(auto, unfolding(grammar_reading::specs::Reading::expr))]
-pub fn expression<'s>(alloc: Global, c: Rules, depth: usize, low: u8, text: &[u8], ts: &'s [Terminal]) -> Result<(Built, &'s [Terminal]), ParseError>
-    ensures { Gives (λ x. (t.expr x.0.tree.value, all_seen text.now x.1.now)) result (spec.expr c depth low (all_seen text.now ts.entry.now)) }
+pub fn expression<'s>(
+    alloc: Global,
+    c: Rules,
+    depth: usize,
+    low: u8,
+    text: &[u8],
+    ts: &'s [Terminal],
+) -> Result<(Built, &'s [Terminal]), ParseError>
+    ensures { Gives (λ x. (t.expr x.0.tree.value, all_seen text.now x.1.now)) result
+        (spec.expr c depth low (all_seen text.now ts.entry.now)) }
 {
     if depth == 0 {
         return Err(ParseError::Syntax(ts.len()));
@@ -45,8 +53,17 @@ pub fn expression<'s>(alloc: Global, c: Rules, depth: usize, low: u8, text: &[u8
 
 #[cycle(parser)]
 #[tactic(auto, unfolding(grammar_reading::specs::Reading::close))]
-pub fn close<'s>(alloc: Global, c: Rules, depth: usize, left: Built, text: &[u8], ts: &'s [Terminal]) -> Result<(Built, &'s [Terminal]), ParseError>
-    ensures { Gives (λ x. (t.expr x.0.tree.value, all_seen text.now x.1.now)) result (spec.close c (spec.expr c depth) (t.expr left.tree.value) (all_seen text.now ts.entry.now)) }
+pub fn close<'s>(
+    alloc: Global,
+    c: Rules,
+    depth: usize,
+    left: Built,
+    text: &[u8],
+    ts: &'s [Terminal],
+) -> Result<(Built, &'s [Terminal]), ParseError>
+    ensures { Gives (λ x. (t.expr x.0.tree.value, all_seen text.now x.1.now)) result
+        (spec.close c (spec.expr c depth) (t.expr left.tree.value)
+        (all_seen text.now ts.entry.now)) }
 {
     let (u, behind) = climb(alloc, c, depth, 1, left, text, ts)?;
     let rest = expect(Symbol::CloseParen, text, behind)?;
@@ -54,8 +71,18 @@ pub fn close<'s>(alloc: Global, c: Rules, depth: usize, left: Built, text: &[u8]
 }
 
 #[cycle(parser)]
-fn closes<'s>(alloc: Global, c: Rules, depth: usize, count: usize, first: Built, text: &[u8], ts: &'s [Terminal]) -> Result<(Built, &'s [Terminal]), ParseError>
-    ensures { Gives (λ x. (t.expr x.0.tree.value, all_seen text.now x.1.now)) result (spec.closes c (spec.expr c depth) count (t.expr first.tree.value) (all_seen text.now ts.entry.now)) }
+fn closes<'s>(
+    alloc: Global,
+    c: Rules,
+    depth: usize,
+    count: usize,
+    first: Built,
+    text: &[u8],
+    ts: &'s [Terminal],
+) -> Result<(Built, &'s [Terminal]), ParseError>
+    ensures { Gives (λ x. (t.expr x.0.tree.value, all_seen text.now x.1.now)) result
+        (spec.closes c (spec.expr c depth) count (t.expr first.tree.value)
+        (all_seen text.now ts.entry.now)) }
 {
     let mut left = first;
     let mut rest = ts;
@@ -68,8 +95,18 @@ fn closes<'s>(alloc: Global, c: Rules, depth: usize, count: usize, first: Built,
 }
 
 #[cycle(parser)]
-pub fn climb<'s>(alloc: Global, c: Rules, depth: usize, low: u8, first: Built, text: &[u8], ts: &'s [Terminal]) -> Result<(Built, &'s [Terminal]), ParseError>
-    ensures { Gives (λ x. (t.expr x.0.tree.value, all_seen text.now x.1.now)) result (spec.climb c (spec.expr c depth) low c.turns (t.expr first.tree.value) (all_seen text.now ts.entry.now)) }
+pub fn climb<'s>(
+    alloc: Global,
+    c: Rules,
+    depth: usize,
+    low: u8,
+    first: Built,
+    text: &[u8],
+    ts: &'s [Terminal],
+) -> Result<(Built, &'s [Terminal]), ParseError>
+    ensures { Gives (λ x. (t.expr x.0.tree.value, all_seen text.now x.1.now)) result
+        (spec.climb c (spec.expr c depth) low c.turns (t.expr first.tree.value)
+        (all_seen text.now ts.entry.now)) }
 {
     let mut left = first;
     let mut rest = ts;
@@ -90,8 +127,15 @@ pub fn climb<'s>(alloc: Global, c: Rules, depth: usize, low: u8, first: Built, t
 
 #[cycle(parser)]
 #[tactic(auto, unfolding(grammar_reading::specs::Reading::operand))]
-pub fn operand<'s>(alloc: Global, c: Rules, depth: usize, text: &[u8], ts: &'s [Terminal]) -> Result<(Built, &'s [Terminal]), ParseError>
-    ensures { Gives (λ x. (t.expr x.0.tree.value, all_seen text.now x.1.now)) result (spec.operand c (spec.expr c depth) (spec.lower c depth) (all_seen text.now ts.entry.now)) }
+pub fn operand<'s>(
+    alloc: Global,
+    c: Rules,
+    depth: usize,
+    text: &[u8],
+    ts: &'s [Terminal],
+) -> Result<(Built, &'s [Terminal]), ParseError>
+    ensures { Gives (λ x. (t.expr x.0.tree.value, all_seen text.now x.1.now)) result
+        (spec.operand c (spec.expr c depth) (spec.lower c depth) (all_seen text.now ts.entry.now)) }
 {
     match ts {
         [Terminal::Literal(n), rest @ ..] => Ok((leaf(alloc, Expr::Lit(*n))?, rest)),
@@ -102,8 +146,17 @@ pub fn operand<'s>(alloc: Global, c: Rules, depth: usize, text: &[u8], ts: &'s [
 }
 
 #[cycle(parser)]
-fn signed<'s>(alloc: Global, c: Rules, depth: usize, sign: Symbol, text: &[u8], ts: &'s [Terminal]) -> Result<(Built, &'s [Terminal]), ParseError>
-    ensures { Gives (λ x. (t.expr x.0.tree.value, all_seen text.now x.1.now)) result (spec.signed c (spec.expr c depth) (spec.lower c depth) sign (all_seen text.now ts.entry.now)) }
+fn signed<'s>(
+    alloc: Global,
+    c: Rules,
+    depth: usize,
+    sign: Symbol,
+    text: &[u8],
+    ts: &'s [Terminal],
+) -> Result<(Built, &'s [Terminal]), ParseError>
+    ensures { Gives (λ x. (t.expr x.0.tree.value, all_seen text.now x.1.now)) result
+        (spec.signed c (spec.expr c depth) (spec.lower c depth) sign
+        (all_seen text.now ts.entry.now)) }
 {
     match sign {
         Symbol::Minus => applied(alloc, c, depth, UnOp::Neg, text, ts),
@@ -119,8 +172,16 @@ fn signed<'s>(alloc: Global, c: Rules, depth: usize, sign: Symbol, text: &[u8], 
 }
 
 #[cycle(parser)]
-fn applied<'s>(alloc: Global, c: Rules, depth: usize, op: UnOp, text: &[u8], ts: &'s [Terminal]) -> Result<(Built, &'s [Terminal]), ParseError>
-    ensures { Gives (λ x. (t.expr x.0.tree.value, all_seen text.now x.1.now)) result (spec.applied c (spec.expr c depth) op (all_seen text.now ts.entry.now)) }
+fn applied<'s>(
+    alloc: Global,
+    c: Rules,
+    depth: usize,
+    op: UnOp,
+    text: &[u8],
+    ts: &'s [Terminal],
+) -> Result<(Built, &'s [Terminal]), ParseError>
+    ensures { Gives (λ x. (t.expr x.0.tree.value, all_seen text.now x.1.now)) result
+        (spec.applied c (spec.expr c depth) op (all_seen text.now ts.entry.now)) }
 {
     let (a, rest) = expression(alloc, c, depth, 7, text, ts)?;
     node(alloc, c, Expr::Un(op, a.tree), a.height, text, rest)
@@ -128,8 +189,16 @@ fn applied<'s>(alloc: Global, c: Rules, depth: usize, op: UnOp, text: &[u8], ts:
 
 #[cycle(parser)]
 #[tactic(auto, unfolding(grammar_reading::specs::Reading::two))]
-fn two<'s>(alloc: Global, c: Rules, depth: usize, k: Two, text: &[u8], ts: &'s [Terminal]) -> Result<(Built, &'s [Terminal]), ParseError>
-    ensures { Gives (λ x. (t.expr x.0.tree.value, all_seen text.now x.1.now)) result (spec.two c (spec.expr c depth) (call_of k) (all_seen text.now ts.entry.now)) }
+fn two<'s>(
+    alloc: Global,
+    c: Rules,
+    depth: usize,
+    k: Two,
+    text: &[u8],
+    ts: &'s [Terminal],
+) -> Result<(Built, &'s [Terminal]), ParseError>
+    ensures { Gives (λ x. (t.expr x.0.tree.value, all_seen text.now x.1.now)) result
+        (spec.two c (spec.expr c depth) (call_of k) (all_seen text.now ts.entry.now)) }
 {
     let inside = expect(Symbol::OpenParen, text, ts)?;
     let (a, comma) = expression(alloc, c, depth, 1, text, inside)?;
@@ -140,8 +209,16 @@ fn two<'s>(alloc: Global, c: Rules, depth: usize, k: Two, text: &[u8], ts: &'s [
 }
 
 #[cycle(parser)]
-fn call<'s>(alloc: Global, c: Rules, depth: usize, k: Two, text: &[u8], ts: &'s [Terminal]) -> Result<(Built, &'s [Terminal]), ParseError>
-    ensures { Gives (λ x. (t.expr x.0.tree.value, all_seen text.now x.1.now)) result (spec.call c (spec.expr c depth) (call_of k) (all_seen text.now ts.entry.now)) }
+fn call<'s>(
+    alloc: Global,
+    c: Rules,
+    depth: usize,
+    k: Two,
+    text: &[u8],
+    ts: &'s [Terminal],
+) -> Result<(Built, &'s [Terminal]), ParseError>
+    ensures { Gives (λ x. (t.expr x.0.tree.value, all_seen text.now x.1.now)) result
+        (spec.call c (spec.expr c depth) (call_of k) (all_seen text.now ts.entry.now)) }
 {
     if build::allowed(c, k) {
         two(alloc, c, depth, k, text, ts)
@@ -151,8 +228,14 @@ fn call<'s>(alloc: Global, c: Rules, depth: usize, k: Two, text: &[u8], ts: &'s 
 }
 
 #[tactic(auto, unfolding(grammar_reading::specs::Reading::wide_parts))]
-fn wide<'s>(alloc: Global, c: Rules, text: &[u8], ts: &'s [Terminal]) -> Result<(Built, &'s [Terminal]), ParseError>
-    ensures { (depth : ℕ) → Gives (λ x. (t.expr x.0.tree.value, all_seen text.now x.1.now)) result (spec.wide c (spec.expr c depth) (all_seen text.now ts.entry.now)) }
+fn wide<'s>(
+    alloc: Global,
+    c: Rules,
+    text: &[u8],
+    ts: &'s [Terminal],
+) -> Result<(Built, &'s [Terminal]), ParseError>
+    ensures { (depth : ℕ) → Gives (λ x. (t.expr x.0.tree.value, all_seen text.now x.1.now)) result
+        (spec.wide c (spec.expr c depth) (all_seen text.now ts.entry.now)) }
 {
     if !c.printed {
         return Err(ParseError::Syntax(ts.len()));
@@ -166,8 +249,16 @@ fn wide<'s>(alloc: Global, c: Rules, text: &[u8], ts: &'s [Terminal]) -> Result<
 }
 
 #[cycle(parser)]
-fn converted<'s>(alloc: Global, c: Rules, depth: usize, text: &[u8], ts: &'s [Terminal]) -> Result<(Built, &'s [Terminal]), ParseError>
-    ensures { Gives (λ x. (t.expr x.0.tree.value, all_seen text.now x.1.now)) result (spec.converted c (spec.expr c depth) (spec.lower c depth) (all_seen text.now ts.entry.now)) }
+fn converted<'s>(
+    alloc: Global,
+    c: Rules,
+    depth: usize,
+    text: &[u8],
+    ts: &'s [Terminal],
+) -> Result<(Built, &'s [Terminal]), ParseError>
+    ensures { Gives (λ x. (t.expr x.0.tree.value, all_seen text.now x.1.now)) result
+        (spec.converted c (spec.expr c depth) (spec.lower c depth)
+        (all_seen text.now ts.entry.now)) }
 {
     match after(Symbol::Uint64, text, ts) {
         Some(word) => word_cast(alloc, c, depth, text, word),
@@ -177,8 +268,15 @@ fn converted<'s>(alloc: Global, c: Rules, depth: usize, text: &[u8], ts: &'s [Te
 
 #[cycle(parser)]
 #[tactic(auto, unfolding(grammar_reading::specs::Reading::wide_parts_cast))]
-fn wide_cast<'s>(alloc: Global, c: Rules, depth: usize, text: &[u8], ts: &'s [Terminal]) -> Result<(Built, &'s [Terminal]), ParseError>
-    ensures { Gives (λ x. (t.expr x.0.tree.value, all_seen text.now x.1.now)) result (spec.wide_cast c (spec.expr c depth) (all_seen text.now ts.entry.now)) }
+fn wide_cast<'s>(
+    alloc: Global,
+    c: Rules,
+    depth: usize,
+    text: &[u8],
+    ts: &'s [Terminal],
+) -> Result<(Built, &'s [Terminal]), ParseError>
+    ensures { Gives (λ x. (t.expr x.0.tree.value, all_seen text.now x.1.now)) result
+        (spec.wide_cast c (spec.expr c depth) (all_seen text.now ts.entry.now)) }
 {
     if !c.printed {
         return Err(ParseError::Syntax(ts.len()));
@@ -192,8 +290,16 @@ fn wide_cast<'s>(alloc: Global, c: Rules, depth: usize, text: &[u8], ts: &'s [Te
 
 #[cycle(parser)]
 #[tactic(auto, unfolding(grammar_reading::specs::Reading::word_cast))]
-fn word_cast<'s>(alloc: Global, c: Rules, depth: usize, text: &[u8], ts: &'s [Terminal]) -> Result<(Built, &'s [Terminal]), ParseError>
-    ensures { Gives (λ x. (t.expr x.0.tree.value, all_seen text.now x.1.now)) result (spec.word_cast c (spec.expr c depth) (spec.lower c depth) (all_seen text.now ts.entry.now)) }
+fn word_cast<'s>(
+    alloc: Global,
+    c: Rules,
+    depth: usize,
+    text: &[u8],
+    ts: &'s [Terminal],
+) -> Result<(Built, &'s [Terminal]), ParseError>
+    ensures { Gives (λ x. (t.expr x.0.tree.value, all_seen text.now x.1.now)) result
+        (spec.word_cast c (spec.expr c depth) (spec.lower c depth)
+        (all_seen text.now ts.entry.now)) }
 {
     let inner = expect(Symbol::CloseParen, text, ts)?;
     match paren(text, inner) {
@@ -208,8 +314,15 @@ fn word_cast<'s>(alloc: Global, c: Rules, depth: usize, text: &[u8], ts: &'s [Te
 /// What stands in the parentheses behind a cast: a comparison or an operand.
 #[cycle(parser)]
 #[tactic(auto, unfolding(grammar_reading::specs::Reading::grouped))]
-fn grouped<'s>(alloc: Global, c: Rules, depth: usize, text: &[u8], ts: &'s [Terminal]) -> Result<(Built, &'s [Terminal]), ParseError>
-    ensures { Gives (λ x. (t.expr x.0.tree.value, all_seen text.now x.1.now)) result (spec.grouped c (spec.expr c depth) (spec.lower c depth) (all_seen text.now ts.entry.now)) }
+fn grouped<'s>(
+    alloc: Global,
+    c: Rules,
+    depth: usize,
+    text: &[u8],
+    ts: &'s [Terminal],
+) -> Result<(Built, &'s [Terminal]), ParseError>
+    ensures { Gives (λ x. (t.expr x.0.tree.value, all_seen text.now x.1.now)) result
+        (spec.grouped c (spec.expr c depth) (spec.lower c depth) (all_seen text.now ts.entry.now)) }
 {
     let (a, rest) = expression(alloc, c, depth, 4, text, ts)?;
     match front_rel(text, rest) {
@@ -225,17 +338,36 @@ fn grouped<'s>(alloc: Global, c: Rules, depth: usize, text: &[u8], ts: &'s [Term
 
 #[cycle(parser)]
 #[tactic(auto, unfolding(grammar_reading::specs::Reading::expr))]
-fn lone<'s>(alloc: Global, c: Rules, depth: usize, a: Built, text: &[u8], ts: &'s [Terminal]) -> Result<(Built, &'s [Terminal]), ParseError>
+fn lone<'s>(
+    alloc: Global,
+    c: Rules,
+    depth: usize,
+    a: Built,
+    text: &[u8],
+    ts: &'s [Terminal],
+) -> Result<(Built, &'s [Terminal]), ParseError>
     requires { 0 < depth }
-    ensures { Gives (λ x. (t.expr x.0.tree.value, all_seen text.now x.1.now)) result (spec.grouped_by c (spec.expr c depth) (spec.lower c depth) (t.expr a.tree.value) (all_seen text.now ts.entry.now) None) }
+    ensures { Gives (λ x. (t.expr x.0.tree.value, all_seen text.now x.1.now)) result
+        (spec.grouped_by c (spec.expr c depth) (spec.lower c depth) (t.expr a.tree.value)
+        (all_seen text.now ts.entry.now) None) }
 {
     let (u, rest) = close(alloc, c, depth - 1, a, text, ts)?;
     node(alloc, c, Expr::Cast(u.tree), u.height, text, rest)
 }
 
 #[cycle(parser)]
-pub fn named<'s>(alloc: Global, c: Rules, depth: usize, start: u32, end: u32, text: &[u8], ts: &'s [Terminal]) -> Result<(Built, &'s [Terminal]), ParseError>
-    ensures { Gives (λ r. (t.expr r.0.tree.value, all_seen text.now r.1.now)) result (spec.named c (spec.expr c depth) (word_at text.now start end) (all_seen text.now ts.entry.now)) }
+pub fn named<'s>(
+    alloc: Global,
+    c: Rules,
+    depth: usize,
+    start: u32,
+    end: u32,
+    text: &[u8],
+    ts: &'s [Terminal],
+) -> Result<(Built, &'s [Terminal]), ParseError>
+    ensures { Gives (λ r. (t.expr r.0.tree.value, all_seen text.now r.1.now)) result
+        (spec.named c (spec.expr c depth) (word_at text.now start end)
+        (all_seen text.now ts.entry.now)) }
 {
     match after(Symbol::OpenBracket, text, ts) {
         None => Ok((build::variable(alloc, word(text, start, end))?, ts)),
@@ -261,8 +393,15 @@ pub fn word(text: &[u8], start: u32, end: u32) -> &[u8]
 
 #[cycle(parser)]
 #[tactic(auto, unfolding(grammar_reading::specs::Reading::one_cell))]
-fn one_cell<'s>(alloc: Global, c: Rules, depth: usize, text: &[u8], ts: &'s [Terminal]) -> Result<(Built, &'s [Terminal]), ParseError>
-    ensures { Gives (λ r. (t.expr r.0.tree.value, all_seen text.now r.1.now)) result (spec.one_cell c (spec.expr c depth) (all_seen text.now ts.entry.now)) }
+fn one_cell<'s>(
+    alloc: Global,
+    c: Rules,
+    depth: usize,
+    text: &[u8],
+    ts: &'s [Terminal],
+) -> Result<(Built, &'s [Terminal]), ParseError>
+    ensures { Gives (λ r. (t.expr r.0.tree.value, all_seen text.now r.1.now)) result
+        (spec.one_cell c (spec.expr c depth) (all_seen text.now ts.entry.now)) }
 {
     let inside = expect(Symbol::OpenBracket, text, ts)?;
     let (u, close) = expression(alloc, c, depth, 1, text, inside)?;
@@ -271,8 +410,15 @@ fn one_cell<'s>(alloc: Global, c: Rules, depth: usize, text: &[u8], ts: &'s [Ter
 }
 
 #[cycle(parser)]
-fn cells<'s>(alloc: Global, c: Rules, depth: usize, text: &[u8], ts: &'s [Terminal]) -> Result<(Row, &'s [Terminal]), ParseError>
-    ensures { Gives (λ r. (t.exprs r.0.trees, all_seen text.now r.1.now)) result (spec.cells c (spec.expr c depth) c.turns (all_seen text.now ts.entry.now)) }
+fn cells<'s>(
+    alloc: Global,
+    c: Rules,
+    depth: usize,
+    text: &[u8],
+    ts: &'s [Terminal],
+) -> Result<(Row, &'s [Terminal]), ParseError>
+    ensures { Gives (λ r. (t.exprs r.0.trees, all_seen text.now r.1.now)) result
+        (spec.cells c (spec.expr c depth) c.turns (all_seen text.now ts.entry.now)) }
 {
     let mut row = build::no_trees(alloc);
     let mut rest = ts;
@@ -288,21 +434,43 @@ fn cells<'s>(alloc: Global, c: Rules, depth: usize, text: &[u8], ts: &'s [Termin
 }
 
 /// An expression that is as high as the text may have one.
-pub fn full_expression<'s>(alloc: Global, c: Rules, text: &[u8], ts: &'s [Terminal]) -> Result<(Box<Expr>, &'s [Terminal]), ParseError>
-    ensures { Gives (λ x. (t.expr x.0.value, all_seen text.now x.1.now)) result (spec.expr c c.limit 1 (all_seen text.now ts.entry.now)) }
+pub fn full_expression<'s>(
+    alloc: Global,
+    c: Rules,
+    text: &[u8],
+    ts: &'s [Terminal],
+) -> Result<(Box<Expr>, &'s [Terminal]), ParseError>
+    ensures { Gives (λ x. (t.expr x.0.value, all_seen text.now x.1.now)) result
+        (spec.expr c c.limit 1 (all_seen text.now ts.entry.now)) }
 {
     let (built, rest) = expression(alloc, c, usize::from(c.limit), 1, text, ts)?;
     Ok((built.tree, rest))
 }
 
 /// The tree of the tokens, all of them.
-pub fn parse_expression(alloc: Global, printed: bool, text: &[u8], ts: &[Terminal]) -> Result<Expr, ParseError>
+pub fn parse_expression(
+    alloc: Global,
+    printed: bool,
+    text: &[u8],
+    ts: &[Terminal],
+) -> Result<Expr, ParseError>
     // What is answered is in the grammar.
-    ensures found { IfOk result (λ e. IsLow printed (limit printed) 1 (all_seen text.now ts.now) (t.expr e) []) }
+    ensures found { IfOk result
+        (λ e. IsLow printed (limit printed) 1 (all_seen text.now ts.now) (t.expr e) []) }
     // Whatever is in the grammar is answered, unless memory runs out.
-    ensures only { (u : PlainExpr) → IsLow printed (limit printed) 1 (all_seen text.now ts.now) u [] → Gives t.expr result (Some u) }
+    ensures only { (u : PlainExpr) → IsLow printed (limit printed) 1 (all_seen text.now ts.now) u []
+        → Gives t.expr result (Some u) }
 {
     let turns = ts.len() + 1;
-    let built = whole(alloc, Rules { printed, limit: limit(printed), turns }, text, ts)?;
+    let built = whole(
+        alloc,
+        Rules {
+            printed,
+            limit: limit(printed),
+            turns,
+        },
+        text,
+        ts,
+    )?;
     Ok(Box::into_inner(built.tree))
 }

@@ -1,6 +1,6 @@
 //! The steps that every rule is made of.
 
-ghost use Rattle.std.specs.Prelude.{◌≡◌, Some, None, drop, MatchOption, IfSome, length, ◌<◌, ◌≤◌, option_map};
+ghost use Rattle.std.specs.Prelude.{◌≡◌, ◌<◌, Some, None, MatchOption, IfSome, option_map, drop, length};
 ghost use Rattle.c_tree.specs.Grammar.Tables as tables;
 ghost use Rattle.expression_parser.specs.Terminals.{all_seen};
 ghost use Rattle.c_tree.specs.Grammar.Expressions as grammar;
@@ -28,7 +28,8 @@ pub fn limit(printed: bool) -> u16
 /// The tokens after the sign, if it comes first.
 #[tactic(auto, unfolding(grammar_reading::specs::Reading::expect))]
 pub fn after<'s>(sign: Symbol, text: &[u8], ts: &'s [Terminal]) -> Option<&'s [Terminal]>
-    ensures value { option_map (λ r. all_seen text.now r.now) result ≡ spec.expect sign (all_seen text.now ts.entry.now) }
+    ensures value { option_map (λ r. all_seen text.now r.now) result
+        ≡ spec.expect sign (all_seen text.now ts.entry.now) }
     ensures shorter { IfSome result (λ r. length r.now < length ts.entry.now) }
 {
     match ts {
@@ -37,8 +38,13 @@ pub fn after<'s>(sign: Symbol, text: &[u8], ts: &'s [Terminal]) -> Option<&'s [T
     }
 }
 
-pub fn expect<'s>(sign: Symbol, text: &[u8], ts: &'s [Terminal]) -> Result<&'s [Terminal], ParseError>
-    ensures { Gives (λ r. all_seen text.now r.now) result (spec.expect sign (all_seen text.now ts.entry.now)) }
+pub fn expect<'s>(
+    sign: Symbol,
+    text: &[u8],
+    ts: &'s [Terminal],
+) -> Result<&'s [Terminal], ParseError>
+    ensures { Gives (λ r. all_seen text.now r.now) result
+        (spec.expect sign (all_seen text.now ts.entry.now)) }
 {
     match after(sign, text, ts) {
         Some(rest) => Ok(rest),
@@ -48,7 +54,8 @@ pub fn expect<'s>(sign: Symbol, text: &[u8], ts: &'s [Terminal]) -> Result<&'s [
 
 #[tactic(auto, unfolding(grammar_reading::specs::Reading::number_at))]
 pub fn number<'s>(text: &[u8], ts: &'s [Terminal]) -> Result<(u64, &'s [Terminal]), ParseError>
-    ensures { Gives (λ r. (r.0, all_seen text.now r.1.now)) result (spec.number_at (all_seen text.now ts.entry.now)) }
+    ensures { Gives (λ r. (r.0, all_seen text.now r.1.now)) result
+        (spec.number_at (all_seen text.now ts.entry.now)) }
 {
     match ts {
         [Terminal::Literal(n), rest @ ..] => Ok((*n, rest)),
@@ -96,7 +103,10 @@ fn relation(sign: Symbol) -> Option<Rel>
 
 /// The binary operator that comes first, and the tokens after it.
 pub fn front_op<'s>(text: &[u8], ts: &'s [Terminal]) -> Option<(BinOp, &'s [Terminal])>
-    ensures { MatchOption result (spec.front_op (all_seen text.now ts.entry.now) ≡ None) (λ x. (spec.front_op (all_seen text.now ts.entry.now) ≡ Some x.0) × (all_seen text.now x.1.now ≡ drop 1 (all_seen text.now ts.entry.now))) }
+    ensures { MatchOption result
+        (spec.front_op (all_seen text.now ts.entry.now) ≡ None)
+        (λ x. (spec.front_op (all_seen text.now ts.entry.now) ≡ Some x.0)
+        × (all_seen text.now x.1.now ≡ drop 1 (all_seen text.now ts.entry.now))) }
 {
     match ts {
         [Terminal::Symbol(sign), rest @ ..] => Some((operator(*sign)?, rest)),
@@ -106,7 +116,10 @@ pub fn front_op<'s>(text: &[u8], ts: &'s [Terminal]) -> Option<(BinOp, &'s [Term
 
 /// The comparison that comes first, and the tokens after it.
 pub fn front_rel<'s>(text: &[u8], ts: &'s [Terminal]) -> Option<(Rel, &'s [Terminal])>
-    ensures { MatchOption result (spec.front_rel (all_seen text.now ts.entry.now) ≡ None) (λ x. (spec.front_rel (all_seen text.now ts.entry.now) ≡ Some x.0) × (all_seen text.now x.1.now ≡ drop 1 (all_seen text.now ts.entry.now))) }
+    ensures { MatchOption result
+        (spec.front_rel (all_seen text.now ts.entry.now) ≡ None)
+        (λ x. (spec.front_rel (all_seen text.now ts.entry.now) ≡ Some x.0)
+        × (all_seen text.now x.1.now ≡ drop 1 (all_seen text.now ts.entry.now))) }
 {
     match ts {
         [Terminal::Symbol(sign), rest @ ..] => Some((relation(*sign)?, rest)),
@@ -117,11 +130,14 @@ pub fn front_rel<'s>(text: &[u8], ts: &'s [Terminal]) -> Option<(Rel, &'s [Termi
 /// The tokens after an opening parenthesis that isn't a cast's.
 #[tactic(auto, unfolding(grammar_reading::specs::Reading::paren))]
 pub fn paren<'s>(text: &[u8], ts: &'s [Terminal]) -> Option<&'s [Terminal]>
-    ensures value { option_map (λ r. all_seen text.now r.now) result ≡ spec.paren (all_seen text.now ts.entry.now) }
+    ensures value { option_map (λ r. all_seen text.now r.now) result
+        ≡ spec.paren (all_seen text.now ts.entry.now) }
     ensures shorter { IfSome result (λ r. length r.now < length ts.entry.now) }
 {
     let inside = after(Symbol::OpenParen, text, ts)?;
-    if after(Symbol::Uint64, text, inside).is_some() || after(Symbol::Unsigned, text, inside).is_some() {
+    if after(Symbol::Uint64, text, inside).is_some()
+        || after(Symbol::Unsigned, text, inside).is_some()
+    {
         return None;
     }
     Some(inside)
@@ -130,7 +146,8 @@ pub fn paren<'s>(text: &[u8], ts: &'s [Terminal]) -> Option<&'s [Terminal]>
 /// How many such parentheses there are at the front, and what is inside all of them.
 pub fn opens<'s>(text: &[u8], ts: &'s [Terminal]) -> (usize, &'s [Terminal])
     ensures count { result.0 ≡ (spec.opens (all_seen text.now ts.entry.now)).0 }
-    ensures inside { all_seen text.now result.1.now ≡ (spec.opens (all_seen text.now ts.entry.now)).1 }
+    ensures inside { all_seen text.now result.1.now
+        ≡ (spec.opens (all_seen text.now ts.entry.now)).1 }
 {
     let mut count = 0;
     let mut rest = ts;

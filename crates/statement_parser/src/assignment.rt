@@ -31,7 +31,8 @@ fn place<'s>(
     text: &[u8],
     ts: &'s [Terminal],
 ) -> Result<(Box<Expr>, &'s [Terminal]), ParseError>
-    ensures { Gives (λ x. (t.expr x.0.value, all_seen text.now x.1.now)) result (spec.place c (all_seen text.now ts.entry.now)) }
+    ensures { Gives (λ x. (t.expr x.0.value, all_seen text.now x.1.now)) result
+        (spec.place c (all_seen text.now ts.entry.now)) }
 {
     let (x, rest) = name(text, ts)?;
     let (built, rest) = named(alloc, c, usize::from(c.limit), x.start, x.end, text, rest)?;
@@ -45,7 +46,8 @@ pub fn assignment<'s>(
     text: &[u8],
     ts: &'s [Terminal],
 ) -> Result<(Stmts, &'s [Terminal]), ParseError>
-    ensures { Gives (λ x. (t.stmts x.0, all_seen text.now x.1.now)) result (spec.assign_at c (all_seen text.now ts.entry.now)) }
+    ensures { Gives (λ x. (t.stmts x.0, all_seen text.now x.1.now)) result
+        (spec.assign_at c (all_seen text.now ts.entry.now)) }
 {
     let (target, rest) = place(alloc, c, text, ts)?;
     let (op, rest) = set_mark(text, rest)?;

@@ -4,16 +4,17 @@ ghost use Rattle.std.specs.Prelude.{◌≡◌, Some, None, IfOk};
 ghost use Rattle.c_tree.specs.Plain.{Word, PlainExpr, check};
 ghost use Rattle.c_tree.specs.Trees as t;
 ghost use Rattle.c_tree.specs.Grammar.Statements.{one};
-ghost use Rattle.expression_parser.specs.Terminals.{all_seen, word_at};
+ghost use Rattle.expression_parser.specs.Terminals.{all_seen};
 ghost use Rattle.expression_parser.specs.Outcome.{Gives};
 ghost use Rattle.grammar_reading.specs.Blocks as spec;
 ghost use Rattle.grammar_reading.specs.declared.rules.Rules.{Rules};
+ghost use Rattle.statement_parser.specs.Names.{name_in};
 ghost use Rattle.statement_parser.specs.Tails.{behind_extent};
 
 use crate::assignment::only;
 use crate::tokens::{Span, name};
 use c_tree::{Expr, Stmt, Stmts, Symbol};
-use expression_parser::{ParseError, Terminal, expect, full_expression, name_of, number, word};
+use expression_parser::{ParseError, Terminal, expect, full_expression, name_of, number};
 use grammar_reading::Rules;
 use std::alloc::Global;
 
@@ -27,7 +28,8 @@ pub struct Front {
 /// What stands before the extent: `x >= (uint64_t)(`.
 #[tactic(auto, unfolding(grammar_reading::specs::Blocks::check_start))]
 fn check_start<'s>(text: &[u8], ts: &'s [Terminal]) -> Result<(Span, &'s [Terminal]), ParseError>
-    ensures { (c : Rules) → Gives (λ x. (word_at text.now x.0.start x.0.end, all_seen text.now x.1.now)) result (spec.check_start c (all_seen text.now ts.entry.now)) }
+    ensures { (c : Rules) → Gives (λ x. (name_in text.now x.0, all_seen text.now x.1.now)) result
+        (spec.check_start c (all_seen text.now ts.entry.now)) }
 {
     let (value, rest) = name(text, ts)?;
     let rest = expect(Symbol::GreaterEqual, text, rest)?;
@@ -40,7 +42,8 @@ fn check_start<'s>(text: &[u8], ts: &'s [Terminal]) -> Result<(Span, &'s [Termin
 
 /// What stands behind the extent: `) ) { return`.
 fn check_body<'s>(text: &[u8], ts: &'s [Terminal]) -> Result<&'s [Terminal], ParseError>
-    ensures { (extent : PlainExpr) → Gives (λ x. (extent, all_seen text.now x.now)) result (behind_extent extent (all_seen text.now ts.entry.now)) }
+    ensures { (extent : PlainExpr) → Gives (λ x. (extent, all_seen text.now x.now)) result
+        (behind_extent extent (all_seen text.now ts.entry.now)) }
 {
     let rest = expect(Symbol::CloseParen, text, ts)?;
     let rest = expect(Symbol::CloseParen, text, rest)?;
@@ -55,7 +58,8 @@ fn check_middle<'s>(
     text: &[u8],
     ts: &'s [Terminal],
 ) -> Result<(Box<Expr>, &'s [Terminal]), ParseError>
-    ensures { Gives (λ x. (t.expr x.0.value, all_seen text.now x.1.now)) result (spec.check_middle c (all_seen text.now ts.entry.now)) }
+    ensures { Gives (λ x. (t.expr x.0.value, all_seen text.now x.1.now)) result
+        (spec.check_middle c (all_seen text.now ts.entry.now)) }
 {
     let (extent, rest) = full_expression(alloc, c, text, ts)?;
     let rest = check_body(text, rest)?;
@@ -70,7 +74,10 @@ pub fn check_front<'s>(
     text: &[u8],
     ts: &'s [Terminal],
 ) -> Result<(Front, &'s [Terminal]), ParseError>
-    ensures { Gives (λ x. ((word_at text.now x.0.value.start x.0.value.end, t.expr x.0.extent.value), all_seen text.now x.1.now)) result (spec.check_front c (all_seen text.now ts.entry.now)) }
+    ensures { Gives
+        (λ x. ((name_in text.now x.0.value, t.expr x.0.extent.value), all_seen text.now x.1.now))
+        result
+        (spec.check_front c (all_seen text.now ts.entry.now)) }
 {
     let (value, rest) = check_start(text, ts)?;
     let (extent, rest) = check_middle(alloc, c, text, rest)?;
@@ -94,7 +101,9 @@ fn array_of(code: u64) -> Option<u32>
 /// The rest of a check, behind its `return`: the number of its array.
 #[tactic(auto, unfolding(grammar_reading::specs::Blocks::check_end))]
 fn check_array<'s>(text: &[u8], ts: &'s [Terminal]) -> Result<(u32, &'s [Terminal]), ParseError>
-    ensures { (c : Rules) (front : Word × PlainExpr) → Gives (λ x. (one (check front.0 front.1 x.0), all_seen text.now x.1.now)) result (spec.check_end c front (all_seen text.now ts.entry.now)) }
+    ensures { (c : Rules) (front : Word × PlainExpr) → Gives
+        (λ x. (one (check front.0 front.1 x.0), all_seen text.now x.1.now)) result
+        (spec.check_end c front (all_seen text.now ts.entry.now)) }
 {
     let (code, rest) = number(text, ts)?;
     let rest = expect(Symbol::Semicolon, text, rest)?;
@@ -111,10 +120,12 @@ pub fn check_end<'s>(
     text: &[u8],
     ts: &'s [Terminal],
 ) -> Result<(Stmts, &'s [Terminal]), ParseError>
-    ensures { (c : Rules) → Gives (λ x. (t.stmts x.0, all_seen text.now x.1.now)) result (spec.check_end c (word_at text.now front.value.start front.value.end, t.expr front.extent.value) (all_seen text.now ts.entry.now)) }
+    ensures { (c : Rules) → Gives (λ x. (t.stmts x.0, all_seen text.now x.1.now)) result
+        (spec.check_end c (name_in text.now front.value, t.expr front.extent.value)
+        (all_seen text.now ts.entry.now)) }
 {
     let (array, rest) = check_array(text, ts)?;
-    let value = name_of(alloc, word(text, front.value.start, front.value.end))?;
+    let value = name_of(alloc, front.value.word(text))?;
     let stmt = Stmt::Check {
         value,
         extent: Box::into_inner(front.extent),

@@ -1,5 +1,5 @@
-//! The parser of statements. Blocks and empty statements, which leave no trace in the tree, are read
-//! in a loop: no call is nested deeper than the statements that are read are high.
+//! The parser of statements. Blocks and empty statements, which leave no trace in the tree, are
+//! read in a loop: no call is nested deeper than the statements that are read are high.
 #![tactic(auto)]
 
 mod assignment;

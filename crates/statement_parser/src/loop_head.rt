@@ -4,15 +4,16 @@ ghost use Rattle.std.specs.Prelude.{◌≡◌, Some, IfOk};
 ghost use Rattle.c_tree.specs.Plain as plain;
 ghost use Rattle.c_tree.specs.Trees as t;
 ghost use Rattle.c_tree.specs.Grammar.Statements.{one};
-ghost use Rattle.expression_parser.specs.Terminals.{all_seen, word_at};
+ghost use Rattle.expression_parser.specs.Terminals.{all_seen};
 ghost use Rattle.expression_parser.specs.Outcome.{Gives};
 ghost use Rattle.grammar_reading.specs.Blocks as spec;
 ghost use Rattle.grammar_reading.specs.declared.rules.Rules.{Rules};
+ghost use Rattle.statement_parser.specs.Names.{name_in};
 
 use crate::assignment::only;
 use crate::tokens::{Span, bound_mark, name, step, this_name};
 use c_tree::{Expr, OutOfMemory, Rel, Stmt, Stmts, Symbol};
-use expression_parser::{ParseError, Terminal, expect, full_expression, name_of, word};
+use expression_parser::{ParseError, Terminal, expect, full_expression, name_of};
 use grammar_reading::Rules;
 use std::alloc::Global;
 
@@ -37,7 +38,9 @@ pub fn for_start<'s>(
     text: &[u8],
     ts: &'s [Terminal],
 ) -> Result<(Start, &'s [Terminal]), ParseError>
-    ensures { Gives (λ x. ((word_at text.now x.0.var.start x.0.var.end, t.expr x.0.lo.value), all_seen text.now x.1.now)) result (spec.for_start c (all_seen text.now ts.entry.now)) }
+    ensures { Gives
+        (λ x. ((name_in text.now x.0.var, t.expr x.0.lo.value), all_seen text.now x.1.now)) result
+        (spec.for_start c (all_seen text.now ts.entry.now)) }
 {
     let rest = expect(Symbol::OpenParen, text, ts)?;
     let rest = expect(Symbol::Int64, text, rest)?;
@@ -56,7 +59,8 @@ pub fn for_bound<'s>(
     text: &[u8],
     ts: &'s [Terminal],
 ) -> Result<(Bound, &'s [Terminal]), ParseError>
-    ensures { Gives (λ x. ((x.0.rel, t.expr x.0.hi.value), all_seen text.now x.1.now)) result (spec.for_bound c v.now (all_seen text.now ts.entry.now)) }
+    ensures { Gives (λ x. ((x.0.rel, t.expr x.0.hi.value), all_seen text.now x.1.now)) result
+        (spec.for_bound c v.now (all_seen text.now ts.entry.now)) }
 {
     let rest = this_name(v, text, ts)?;
     let (rel, rest) = bound_mark(text, rest)?;
@@ -67,7 +71,8 @@ pub fn for_bound<'s>(
 
 #[tactic(auto, unfolding(grammar_reading::specs::Blocks::for_step))]
 pub fn for_step<'s>(v: &[u8], text: &[u8], ts: &'s [Terminal]) -> Result<&'s [Terminal], ParseError>
-    ensures { (c : Rules) → Gives (λ x. all_seen text.now x.now) result (spec.for_step c v.now (all_seen text.now ts.entry.now)) }
+    ensures { (c : Rules) → Gives (λ x. all_seen text.now x.now) result
+        (spec.for_step c v.now (all_seen text.now ts.entry.now)) }
 {
     let rest = step(v, text, ts)?;
     expect(Symbol::CloseParen, text, rest)
@@ -80,9 +85,12 @@ pub fn loop_of(
     bound: Bound,
     body: Stmts,
 ) -> Result<Stmts, OutOfMemory>
-    ensures { IfOk result (λ list. t.stmts list ≡ one (plain.loop (word_at text.now start.var.start start.var.end) (t.expr start.lo.value) bound.rel (t.expr bound.hi.value) (t.stmts body))) }
+    ensures { IfOk result
+        (λ list. t.stmts list ≡ one
+        (plain.loop (name_in text.now start.var) (t.expr start.lo.value)
+        bound.rel (t.expr bound.hi.value) (t.stmts body))) }
 {
-    let var = name_of(alloc, word(text, start.var.start, start.var.end))?;
+    let var = name_of(alloc, start.var.word(text))?;
     let stmt = Stmt::For {
         var,
         lo: Box::into_inner(start.lo),

@@ -13,7 +13,7 @@ use crate::assignment::{assignment, only};
 use crate::check::{check_end, check_front};
 use crate::loop_head::{for_bound, for_start, for_step, loop_of};
 use c_tree::{Stmt, Stmts, Symbol, Tests};
-use expression_parser::{ParseError, Terminal, after, conds, expect, word};
+use expression_parser::{ParseError, Terminal, after, conds, expect};
 use grammar_reading::Rules;
 use sqlite_items::Items;
 use std::alloc::Global;
@@ -29,7 +29,8 @@ pub fn unbraced<'s>(
     text: &[u8],
     ts: &'s [Terminal],
 ) -> Result<(Stmts, &'s [Terminal]), ParseError>
-    ensures { Gives (λ x. (t.stmts x.0, all_seen text.now x.1.now)) result (spec.simple c depth (all_seen text.now ts.entry.now)) }
+    ensures { Gives (λ x. (t.stmts x.0, all_seen text.now x.1.now)) result
+        (spec.simple c depth (all_seen text.now ts.entry.now)) }
 {
     if depth > 0 {
         return by_front(alloc, c, depth - 1, text, ts);
@@ -48,7 +49,9 @@ fn by_front<'s>(
     text: &[u8],
     ts: &'s [Terminal],
 ) -> Result<(Stmts, &'s [Terminal]), ParseError>
-    ensures { Gives (λ x. (t.stmts x.0, all_seen text.now x.1.now)) result (spec.stmt_at c (spec.body (spec.simple c depth) c.turns) (all_seen text.now ts.entry.now)) }
+    ensures { Gives (λ x. (t.stmts x.0, all_seen text.now x.1.now)) result
+        (spec.stmt_at c (spec.body (spec.simple c depth) c.turns)
+        (all_seen text.now ts.entry.now)) }
 {
     match ts {
         [Terminal::Name(_, _), ..] => assignment(alloc, c, text, ts),
@@ -66,7 +69,9 @@ fn by_symbol<'s>(
     text: &[u8],
     ts: &'s [Terminal],
 ) -> Result<(Stmts, &'s [Terminal]), ParseError>
-    ensures { Gives (λ x. (t.stmts x.0, all_seen text.now x.1.now)) result (spec.by_sign c (spec.body (spec.simple c depth) c.turns) first (all_seen text.now ts.entry.now)) }
+    ensures { Gives (λ x. (t.stmts x.0, all_seen text.now x.1.now)) result
+        (spec.by_sign c (spec.body (spec.simple c depth) c.turns) first
+        (all_seen text.now ts.entry.now)) }
 {
     match first {
         Symbol::Semicolon => Ok((Items::new(alloc), ts)),
@@ -85,10 +90,11 @@ fn for_loop<'s>(
     text: &[u8],
     ts: &'s [Terminal],
 ) -> Result<(Stmts, &'s [Terminal]), ParseError>
-    ensures { Gives (λ x. (t.stmts x.0, all_seen text.now x.1.now)) result (spec.for_at c (spec.body (spec.simple c depth) c.turns) (all_seen text.now ts.entry.now)) }
+    ensures { Gives (λ x. (t.stmts x.0, all_seen text.now x.1.now)) result
+        (spec.for_at c (spec.body (spec.simple c depth) c.turns) (all_seen text.now ts.entry.now)) }
 {
     let (start, rest) = for_start(alloc, c, text, ts)?;
-    let v = word(text, start.var.start, start.var.end);
+    let v = start.var.word(text);
     let (bound, rest) = for_bound(alloc, c, v, text, rest)?;
     let rest = for_step(v, text, rest)?;
     let (body, rest) = statement(alloc, c, depth, text, rest)?;
@@ -104,7 +110,8 @@ fn if_or_check<'s>(
     text: &[u8],
     ts: &'s [Terminal],
 ) -> Result<(Stmts, &'s [Terminal]), ParseError>
-    ensures { Gives (λ x. (t.stmts x.0, all_seen text.now x.1.now)) result (spec.if_at c (spec.body (spec.simple c depth) c.turns) (all_seen text.now ts.entry.now)) }
+    ensures { Gives (λ x. (t.stmts x.0, all_seen text.now x.1.now)) result
+        (spec.if_at c (spec.body (spec.simple c depth) c.turns) (all_seen text.now ts.entry.now)) }
 {
     let rest = expect(Symbol::OpenParen, text, ts)?;
     if !c.printed {
@@ -127,7 +134,9 @@ fn choice<'s>(
     text: &[u8],
     ts: &'s [Terminal],
 ) -> Result<(Stmts, &'s [Terminal]), ParseError>
-    ensures { Gives (λ x. (t.stmts x.0, all_seen text.now x.1.now)) result (spec.if_plain c (spec.body (spec.simple c depth) c.turns) (all_seen text.now ts.entry.now)) }
+    ensures { Gives (λ x. (t.stmts x.0, all_seen text.now x.1.now)) result
+        (spec.if_plain c (spec.body (spec.simple c depth) c.turns)
+        (all_seen text.now ts.entry.now)) }
 {
     let (tests, rest) = conds(alloc, c, text, ts)?;
     let rest = expect(Symbol::CloseParen, text, rest)?;
@@ -146,7 +155,10 @@ fn other_part<'s>(
     text: &[u8],
     ts: &'s [Terminal],
 ) -> Result<(Stmts, &'s [Terminal]), ParseError>
-    ensures { Gives (λ x. (t.stmts x.0, all_seen text.now x.1.now)) result (spec.else_by c (spec.body (spec.simple c depth) c.turns) (t.tests tests) (t.stmts then) (all_seen text.now ts.entry.now) (reading.expect s.Else (all_seen text.now ts.entry.now))) }
+    ensures { Gives (λ x. (t.stmts x.0, all_seen text.now x.1.now)) result
+        (spec.else_by c (spec.body (spec.simple c depth) c.turns) (t.tests tests) (t.stmts then)
+        (all_seen text.now ts.entry.now)
+        (reading.expect s.Else (all_seen text.now ts.entry.now))) }
 {
     match after(Symbol::Else, text, ts) {
         None => {
@@ -169,7 +181,8 @@ pub fn statement<'s>(
     text: &[u8],
     ts: &'s [Terminal],
 ) -> Result<(Stmts, &'s [Terminal]), ParseError>
-    ensures { Gives (λ x. (t.stmts x.0, all_seen text.now x.1.now)) result (spec.body (spec.simple c depth) c.turns (all_seen text.now ts.entry.now)) }
+    ensures { Gives (λ x. (t.stmts x.0, all_seen text.now x.1.now)) result
+        (spec.body (spec.simple c depth) c.turns (all_seen text.now ts.entry.now)) }
 {
     match after(Symbol::OpenBrace, text, ts) {
         Some(inside) => block(alloc, c, depth, text, inside),
@@ -187,7 +200,8 @@ pub fn block<'s>(
     text: &[u8],
     ts: &'s [Terminal],
 ) -> Result<(Stmts, &'s [Terminal]), ParseError>
-    ensures { Gives (λ x. (t.stmts x.0, all_seen text.now x.1.now)) result (spec.inside (spec.simple c depth) c.turns 0 no_stmts (all_seen text.now ts.entry.now)) }
+    ensures { Gives (λ x. (t.stmts x.0, all_seen text.now x.1.now)) result
+        (spec.inside (spec.simple c depth) c.turns 0 no_stmts (all_seen text.now ts.entry.now)) }
 {
     let mut list = Items::new(alloc);
     let mut held: usize = 0;

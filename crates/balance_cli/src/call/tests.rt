@@ -529,8 +529,14 @@ fn stops_within(
     let left = call(alloc, &files, "try shift.c d1", failing)?;
     let whole = BALANCED.as_bytes();
     assert_eq!(rt; left.status, Status::WriteFault, "{length} bytes");
-    assert_eq!(rt; left.out.bytes.as_slice(), &whole[..whole.len().min(length)]);
-    assert_eq!(rt; left.err.bytes.as_slice(), b"balance: cannot write\n".as_slice());
+    assert_eq!(rt;
+        left.out.bytes.as_slice(),
+        &whole[..whole.len().min(length)]
+    );
+    assert_eq!(rt;
+        left.err.bytes.as_slice(),
+        b"balance: cannot write\n".as_slice()
+    );
     Ok(())
 }
 
@@ -543,7 +549,12 @@ fn writes_a_prefix_where_a_write_fails(rt: HostRuntime) -> Result<(), Fail> {
                 most,
                 ..NONE
             };
-            stops_within(&rt, rt.alloc(), failing, most.saturating_mul(whole as usize))?;
+            stops_within(
+                &rt,
+                rt.alloc(),
+                failing,
+                most.saturating_mul(whole as usize),
+            )?;
         }
     }
     for room in 0..BALANCED.len() {

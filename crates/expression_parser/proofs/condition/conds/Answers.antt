@@ -20,7 +20,7 @@ returns-then-left-eq0 c =
     let zero_left : c.shut-left.result.0 ≡ 0 = first_of (search rules, grind (arith, common_steps)) in
     c.loop-turn.invariant
     ∙ turned c.args.c (c.args.c.turns - c.loop-turn._turn) c.loop-turn.held c.in_ok-more.more c.in_ok-opened.opened c.shut-left.result.0 (t.tests c.loop-turn.tests) (t.a_test c.in_ok-more.test) (all_seen c.args.text.now c.loop-turn.rest.now) (all_seen c.args.text.now c.in_ok-more.behind.now) (all_seen c.args.text.now c.shut-left.result.1.now) None
-        (omega (arith, c.loop-turn-test.true)) c.in_ok-more.ensures sum c.shut-left.ensures.count c.shut-left.ensures.behind (sym c.in_default.ensures.value)
+    (omega (arith, c.loop-turn-test.true)) c.in_ok-more.ensures sum c.shut-left.ensures.count c.shut-left.ensures.behind (sym c.in_default.ensures.value)
     ∙ ap (λ (j : ℕ). ended c.args.c j (t.tests c.loop-turn.tests ++ t.a_test c.in_ok-more.test ∷ []) (all_seen c.args.text.now c.shut-left.result.1.now)) zero_left
     ∙ ap (λ (us : List PlainTest). Some (us, (all_seen c.args.text.now c.shut-left.result.1.now))) pushed
 
@@ -31,7 +31,7 @@ returns-in_default c =
     let some_left : 0 < c.shut-left.result.0 = first_of (omega (arith, c.if-left-eq0.false), search rules, grind (arith, common_steps)) in
     c.loop-turn.invariant
     ∙ turned c.args.c (c.args.c.turns - c.loop-turn._turn) c.loop-turn.held c.in_ok-more.more c.in_ok-opened.opened c.shut-left.result.0 (t.tests c.loop-turn.tests) (t.a_test c.in_ok-more.test) (all_seen c.args.text.now c.loop-turn.rest.now) (all_seen c.args.text.now c.in_ok-more.behind.now) (all_seen c.args.text.now c.shut-left.result.1.now) None
-        (omega (arith, c.loop-turn-test.true)) c.in_ok-more.ensures sum c.shut-left.ensures.count c.shut-left.ensures.behind (sym c.in_default.ensures.value)
+    (omega (arith, c.loop-turn-test.true)) c.in_ok-more.ensures sum c.shut-left.ensures.count c.shut-left.ensures.behind (sym c.in_default.ensures.value)
     ∙ ended_none c.args.c c.shut-left.result.0 _ (all_seen c.args.text.now c.shut-left.result.1.now) some_left
 
 pub loop-turn-preserved : goal.loop-turn-preserved
@@ -41,7 +41,7 @@ loop-turn-preserved c =
     let e : c.args.c.turns - c.loop-turn._turn - 1 ≡ c.args.c.turns - (c.loop-turn._turn + 1) = omega arith in
     c.loop-turn.invariant
     ∙ turned c.args.c (c.args.c.turns - c.loop-turn._turn) c.loop-turn.held c.in_ok-more.more c.in_ok-opened.opened c.shut-left.result.0 (t.tests c.loop-turn.tests) (t.a_test c.in_ok-more.test) (all_seen c.args.text.now c.loop-turn.rest.now) (all_seen c.args.text.now c.in_ok-more.behind.now) (all_seen c.args.text.now c.shut-left.result.1.now) (Some (all_seen c.args.text.now c.in-Some.second.now))
-        (omega (arith, c.loop-turn-test.true)) c.in_ok-more.ensures sum c.shut-left.ensures.count c.shut-left.ensures.behind (sym c.in-Some.ensures.value)
+    (omega (arith, c.loop-turn-test.true)) c.in_ok-more.ensures sum c.shut-left.ensures.count c.shut-left.ensures.behind (sym c.in-Some.ensures.value)
     ∙ ap (λ (us : List PlainTest). conds c.args.c (c.args.c.turns - c.loop-turn._turn - 1) c.shut-left.result.0 us (all_seen c.args.text.now c.in-Some.second.now)) pushed
     ∙ ap (λ (n : ℕ). conds c.args.c n c.shut-left.result.0 (t.tests c.push.new.self) (all_seen c.args.text.now c.in-Some.second.now)) e
 
