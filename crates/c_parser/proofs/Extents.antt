@@ -1,5 +1,5 @@
 -- Reading extents, one by one.
-use Rattle.std.proofs.Common.{◌≡◌, ℕ, zero, suc, ◌-◌, ◌<◌, List, [], ◌∷◌, Bool, true, false, Option, Some, None, option_and_then, is_some, refl, sym, ap, ◌∙◌, arith, ◌⊎◌, inl, inr}
+use Rattle.std.proofs.Common.{◌≡◌, ℕ, zero, suc, ◌-◌, ◌<◌, List, true, false, Option, Some, None, option_and_then, is_some, refl, sym, ap, ◌∙◌, arith, ◌⊎◌, inl, inr}
 use Rattle.c_tree.specs.Plain.{PlainExpr, PlainExprs, no_exprs, more_exprs}
 use Rattle.c_tree.specs.declared.symbol.Symbol.TheVariants as s
 use Rattle.c_tree.specs.Grammar.Lexemes.{Lexeme}

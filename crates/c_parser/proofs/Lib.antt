@@ -6,3 +6,5 @@ pub mod Fronts
 pub mod StmtLists
 pub mod Tables
 pub mod Printed
+pub mod AnswerLemmas
+pub mod Places

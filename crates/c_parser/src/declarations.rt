@@ -32,7 +32,11 @@ fn begins_word(text: &[u8], ts: &[Terminal]) -> bool
 
 /// `uint64_t x = 1;`
 #[tactic(auto, unfolding(grammar_reading::specs::UnitReading::declaration_at))]
-fn declaration<'s>(alloc: Global, text: &[u8], ts: &'s [Terminal]) -> Result<((Name, u64), &'s [Terminal]), ParseError>
+fn declaration<'s>(
+    alloc: Global,
+    text: &[u8],
+    ts: &'s [Terminal],
+) -> Result<((Name, u64), &'s [Terminal]), ParseError>
     ensures { Gives (λ x. (seen.declaration x.0, all_seen text.now x.1.now)) result (spec.declaration_at (all_seen text.now ts.entry.now)) }
 {
     let rest = expect(Symbol::Uint64, text, ts)?;
@@ -46,7 +50,12 @@ fn declaration<'s>(alloc: Global, text: &[u8], ts: &'s [Terminal]) -> Result<((N
 
 /// All declarations of words.
 #[tactic(auto, using(crate::proofs::Lists::many_ends, crate::proofs::Lists::many_stops, crate::proofs::Lists::many_out))]
-pub fn words<'s>(alloc: Global, c: Rules, text: &[u8], ts: &'s [Terminal]) -> Result<(Words, &'s [Terminal]), ParseError>
+pub fn words<'s>(
+    alloc: Global,
+    c: Rules,
+    text: &[u8],
+    ts: &'s [Terminal],
+) -> Result<(Words, &'s [Terminal]), ParseError>
     ensures { Gives (λ x. (seen.declarations x.0, all_seen text.now x.1.now)) result (spec.words c.turns [] (all_seen text.now ts.entry.now)) }
 {
     let mut words = Items::new(alloc);
@@ -64,7 +73,11 @@ pub fn words<'s>(alloc: Global, c: Rules, text: &[u8], ts: &'s [Terminal]) -> Re
 
 /// `unsigned __int128 x = 0;`
 #[tactic(auto, unfolding(grammar_reading::specs::HeadReading::wide_at))]
-fn wide<'s>(alloc: Global, text: &[u8], ts: &'s [Terminal]) -> Result<(Name, &'s [Terminal]), ParseError>
+fn wide<'s>(
+    alloc: Global,
+    text: &[u8],
+    ts: &'s [Terminal],
+) -> Result<(Name, &'s [Terminal]), ParseError>
     ensures { Gives (λ x. (t.word x.0, all_seen text.now x.1.now)) result (heads.wide_at (all_seen text.now ts.entry.now)) }
 {
     let front = [Wanted::Mark(Symbol::Unsigned), Wanted::Mark(Symbol::Int128)];
@@ -82,7 +95,12 @@ fn wide<'s>(alloc: Global, text: &[u8], ts: &'s [Terminal]) -> Result<(Name, &'s
 
 /// All declarations of wide words.
 #[tactic(auto, using(crate::proofs::Lists::many_ends, crate::proofs::Lists::many_stops, crate::proofs::Lists::many_out))]
-pub fn wides<'s>(alloc: Global, c: Rules, text: &[u8], ts: &'s [Terminal]) -> Result<(NameList, &'s [Terminal]), ParseError>
+pub fn wides<'s>(
+    alloc: Global,
+    c: Rules,
+    text: &[u8],
+    ts: &'s [Terminal],
+) -> Result<(NameList, &'s [Terminal]), ParseError>
     ensures { Gives (λ x. (names.words x.0, all_seen text.now x.1.now)) result (spec.wides c.turns [] (all_seen text.now ts.entry.now)) }
 {
     let mut wides = Items::new(alloc);

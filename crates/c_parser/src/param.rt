@@ -17,7 +17,12 @@ use std::alloc::Global;
 
 /// `[n + 1]`
 #[tactic(auto, unfolding(grammar_reading::specs::HeadReading::dim))]
-fn extent<'s>(alloc: Global, c: Rules, text: &[u8], ts: &'s [Terminal]) -> Result<(Expr, &'s [Terminal]), ParseError>
+fn extent<'s>(
+    alloc: Global,
+    c: Rules,
+    text: &[u8],
+    ts: &'s [Terminal],
+) -> Result<(Expr, &'s [Terminal]), ParseError>
     ensures { Gives (λ x. (t.expr x.0, all_seen text.now x.1.now)) result (heads.dim c (all_seen text.now ts.entry.now)) }
 {
     let rest = expect(Symbol::OpenBracket, text, ts)?;
@@ -28,7 +33,12 @@ fn extent<'s>(alloc: Global, c: Rules, text: &[u8], ts: &'s [Terminal]) -> Resul
 
 /// One to three extents.
 #[tactic(auto, using(crate::proofs::Extents::dims_stop, crate::proofs::Extents::dims_last, crate::proofs::Extents::dims_next, expression_parser::proofs::RowLemmas::exprs_push))]
-fn extents<'s>(alloc: Global, c: Rules, text: &[u8], ts: &'s [Terminal]) -> Result<(Exprs, &'s [Terminal]), ParseError>
+fn extents<'s>(
+    alloc: Global,
+    c: Rules,
+    text: &[u8],
+    ts: &'s [Terminal],
+) -> Result<(Exprs, &'s [Terminal]), ParseError>
     ensures { Gives (λ x. (t.exprs x.0, all_seen text.now x.1.now)) result (heads.dims c 2 (all_seen text.now ts.entry.now)) }
 {
     let mut extents = Items::new(alloc);
@@ -47,7 +57,13 @@ fn extents<'s>(alloc: Global, c: Rules, text: &[u8], ts: &'s [Terminal]) -> Resu
 
 /// `uint64_t A[n]`
 #[tactic(auto, unfolding(grammar_reading::specs::HeadReading::array_at))]
-fn array<'s>(alloc: Global, c: Rules, constant: bool, text: &[u8], ts: &'s [Terminal]) -> Result<(Param, &'s [Terminal]), ParseError>
+fn array<'s>(
+    alloc: Global,
+    c: Rules,
+    constant: bool,
+    text: &[u8],
+    ts: &'s [Terminal],
+) -> Result<(Param, &'s [Terminal]), ParseError>
     ensures { Gives (λ x. (t.param x.0, all_seen text.now x.1.now)) result (heads.array_at c constant (all_seen text.now ts.entry.now)) }
 {
     let rest = expect(Symbol::Uint64, text, ts)?;
@@ -65,7 +81,12 @@ fn array<'s>(alloc: Global, c: Rules, constant: bool, text: &[u8], ts: &'s [Term
 }
 
 #[tactic(auto, unfolding(grammar_reading::specs::HeadReading::param_at))]
-fn param<'s>(alloc: Global, c: Rules, text: &[u8], ts: &'s [Terminal]) -> Result<(Param, &'s [Terminal]), ParseError>
+fn param<'s>(
+    alloc: Global,
+    c: Rules,
+    text: &[u8],
+    ts: &'s [Terminal],
+) -> Result<(Param, &'s [Terminal]), ParseError>
     ensures { Gives (λ x. (t.param x.0, all_seen text.now x.1.now)) result (heads.param_at c (all_seen text.now ts.entry.now)) }
 {
     if let Some(rest) = after(Symbol::Int64, text, ts) {
@@ -80,7 +101,12 @@ fn param<'s>(alloc: Global, c: Rules, text: &[u8], ts: &'s [Terminal]) -> Result
 
 /// One parameter or more.
 #[tactic(auto, using(crate::proofs::Lists::params_stop, crate::proofs::Lists::params_end, crate::proofs::Lists::params_out))]
-pub fn params<'s>(alloc: Global, c: Rules, text: &[u8], ts: &'s [Terminal]) -> Result<(Params, &'s [Terminal]), ParseError>
+pub fn params<'s>(
+    alloc: Global,
+    c: Rules,
+    text: &[u8],
+    ts: &'s [Terminal],
+) -> Result<(Params, &'s [Terminal]), ParseError>
     ensures { Gives (λ x. (map t.param x.0, all_seen text.now x.1.now)) result (spec.params c c.turns [] (all_seen text.now ts.entry.now)) }
 {
     let mut params = Items::new(alloc);

@@ -52,7 +52,11 @@ fn int<'s>(text: &[u8], ts: &'s [Terminal]) -> Result<(i64, &'s [Terminal]), Par
 
 /// `#pragma balance range n -1 9`
 #[tactic(auto, unfolding(grammar_reading::specs::HeadReading::range_at))]
-fn range<'s>(alloc: Global, text: &[u8], ts: &'s [Terminal]) -> Result<((Name, i64, i64), &'s [Terminal]), ParseError>
+fn range<'s>(
+    alloc: Global,
+    text: &[u8],
+    ts: &'s [Terminal],
+) -> Result<((Name, i64, i64), &'s [Terminal]), ParseError>
     ensures { Gives (λ x. (seen.range x.0, all_seen text.now x.1.now)) result (heads.range_at (all_seen text.now ts.entry.now)) }
 {
     let rest = expect(Symbol::Directive, text, ts)?;
@@ -67,7 +71,12 @@ fn range<'s>(alloc: Global, text: &[u8], ts: &'s [Terminal]) -> Result<((Name, i
 
 /// All range lines.
 #[tactic(auto, using(crate::proofs::Lists::many_ends, crate::proofs::Lists::many_stops, crate::proofs::Lists::many_out))]
-pub fn ranges<'s>(alloc: Global, c: Rules, text: &[u8], ts: &'s [Terminal]) -> Result<(Ranges, &'s [Terminal]), ParseError>
+pub fn ranges<'s>(
+    alloc: Global,
+    c: Rules,
+    text: &[u8],
+    ts: &'s [Terminal],
+) -> Result<(Ranges, &'s [Terminal]), ParseError>
     ensures { Gives (λ x. (seen.ranges x.0, all_seen text.now x.1.now)) result (spec.ranges c.turns [] (all_seen text.now ts.entry.now)) }
 {
     let mut ranges = Items::new(alloc);

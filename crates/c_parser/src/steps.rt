@@ -20,7 +20,11 @@ pub fn begins(symbol: Symbol, text: &[u8], ts: &[Terminal]) -> bool
 }
 
 /// The name that comes first, by its bytes.
-pub fn spelled_name<'s>(alloc: Global, text: &[u8], ts: &'s [Terminal]) -> Result<(Name, &'s [Terminal]), ParseError>
+pub fn spelled_name<'s>(
+    alloc: Global,
+    text: &[u8],
+    ts: &'s [Terminal],
+) -> Result<(Name, &'s [Terminal]), ParseError>
     ensures { Gives (λ x. (t.word x.0, all_seen text.now x.1.now)) result (blocks.name_at (all_seen text.now ts.entry.now)) }
 {
     let (place, rest) = name(text, ts)?;

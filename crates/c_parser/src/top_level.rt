@@ -57,7 +57,12 @@ fn table_end<'s>(table: Span, text: &[u8], ts: &'s [Terminal]) -> Result<&'s [Te
 
 /// `uint64_t *x = calloc(n, sizeof(uint64_t));`, and the line behind it.
 #[tactic(auto, unfolding(grammar_reading::specs::HeadReading::table_at))]
-fn table<'s>(alloc: Global, c: Rules, text: &[u8], ts: &'s [Terminal]) -> Result<(Stmt, &'s [Terminal]), ParseError>
+fn table<'s>(
+    alloc: Global,
+    c: Rules,
+    text: &[u8],
+    ts: &'s [Terminal],
+) -> Result<(Stmt, &'s [Terminal]), ParseError>
     ensures { Gives (λ x. (t.stmt x.0, all_seen text.now x.1.now)) result (heads.table_at c (all_seen text.now ts.entry.now)) }
 {
     let front = [Wanted::Mark(Symbol::Uint64), Wanted::Mark(Symbol::Star)];
@@ -77,7 +82,12 @@ fn table<'s>(alloc: Global, c: Rules, text: &[u8], ts: &'s [Terminal]) -> Result
 }
 
 #[tactic(auto, unfolding(grammar_reading::specs::UnitReading::table_of))]
-fn lone_table<'s>(alloc: Global, c: Rules, text: &[u8], ts: &'s [Terminal]) -> Result<(Stmts, &'s [Terminal]), ParseError>
+fn lone_table<'s>(
+    alloc: Global,
+    c: Rules,
+    text: &[u8],
+    ts: &'s [Terminal],
+) -> Result<(Stmts, &'s [Terminal]), ParseError>
     ensures { Gives (λ x. (t.stmts x.0, all_seen text.now x.1.now)) result (spec.table_of c (all_seen text.now ts.entry.now)) }
 {
     let (table, rest) = table(alloc, c, text, ts)?;
@@ -87,7 +97,12 @@ fn lone_table<'s>(alloc: Global, c: Rules, text: &[u8], ts: &'s [Terminal]) -> R
 }
 
 /// A statement or a table.
-fn part<'s>(alloc: Global, c: Rules, text: &[u8], ts: &'s [Terminal]) -> Result<(Stmts, &'s [Terminal]), ParseError>
+fn part<'s>(
+    alloc: Global,
+    c: Rules,
+    text: &[u8],
+    ts: &'s [Terminal],
+) -> Result<(Stmts, &'s [Terminal]), ParseError>
     ensures { Gives (λ x. (t.stmts x.0, all_seen text.now x.1.now)) result (spec.top_one c (all_seen text.now ts.entry.now) (spec.begins s.Uint64 (all_seen text.now ts.entry.now))) }
 {
     if begins(Symbol::Uint64, text, ts) {
@@ -99,7 +114,12 @@ fn part<'s>(alloc: Global, c: Rules, text: &[u8], ts: &'s [Terminal]) -> Result<
 
 /// Statements and tables up to a directive or a `return`.
 #[tactic(auto, using(crate::proofs::Lists::top_ends, crate::proofs::Lists::top_stops, crate::proofs::Lists::top_out))]
-pub fn top_level<'s>(alloc: Global, c: Rules, text: &[u8], ts: &'s [Terminal]) -> Result<(Stmts, &'s [Terminal]), ParseError>
+pub fn top_level<'s>(
+    alloc: Global,
+    c: Rules,
+    text: &[u8],
+    ts: &'s [Terminal],
+) -> Result<(Stmts, &'s [Terminal]), ParseError>
     ensures { Gives (λ x. (t.stmts x.0, all_seen text.now x.1.now)) result (spec.top c c.turns no_stmts (all_seen text.now ts.entry.now)) }
 {
     let mut list = Items::new(alloc);

@@ -50,7 +50,12 @@ struct Halves {
 
 /// Behind the function's type: `shift(int64_t n, uint64_t A[n]) {`
 #[tactic(auto, unfolding(grammar_reading::specs::UnitReading::head_at))]
-fn head<'s>(alloc: Global, c: Rules, text: &[u8], ts: &'s [Terminal]) -> Result<(Function, &'s [Terminal]), ParseError>
+fn head<'s>(
+    alloc: Global,
+    c: Rules,
+    text: &[u8],
+    ts: &'s [Terminal],
+) -> Result<(Function, &'s [Terminal]), ParseError>
     ensures { Gives (λ x. ((t.word x.0.name, map t.param x.0.params), all_seen text.now x.1.now)) result (spec.head_at c (all_seen text.now ts.entry.now)) }
 {
     let (place, rest) = name(text, ts)?;
@@ -64,7 +69,13 @@ fn head<'s>(alloc: Global, c: Rules, text: &[u8], ts: &'s [Terminal]) -> Result<
 
 /// What stands before the statements. `kind` is the function's type.
 #[tactic(auto, unfolding(grammar_reading::specs::UnitReading::start_at))]
-fn start_of<'s>(alloc: Global, c: Rules, kind: Symbol, text: &[u8], ts: &'s [Terminal]) -> Result<(Start, &'s [Terminal]), ParseError>
+fn start_of<'s>(
+    alloc: Global,
+    c: Rules,
+    kind: Symbol,
+    text: &[u8],
+    ts: &'s [Terminal],
+) -> Result<(Start, &'s [Terminal]), ParseError>
     ensures { Gives (λ x. (start_seen x.0, all_seen text.now x.1.now)) result (spec.start_at c kind (all_seen text.now ts.entry.now)) }
 {
     let (ranges, rest) = ranges(alloc, c, text, ts)?;
@@ -97,7 +108,12 @@ fn made(start: Start, version: Option<u8>, wides: NameList, body: Stmts) -> Unit
 }
 
 #[tactic(auto, unfolding(grammar_reading::specs::UnitReading::source_at))]
-fn source<'s>(alloc: Global, c: Rules, text: &[u8], ts: &'s [Terminal]) -> Result<(Unit, &'s [Terminal]), ParseError>
+fn source<'s>(
+    alloc: Global,
+    c: Rules,
+    text: &[u8],
+    ts: &'s [Terminal],
+) -> Result<(Unit, &'s [Terminal]), ParseError>
     ensures { Gives (λ x. (t.unit x.0, all_seen text.now x.1.now)) result (spec.source_at c (all_seen text.now ts.entry.now)) }
 {
     let (start, rest) = start_of(alloc, c, Symbol::Void, text, ts)?;
@@ -106,7 +122,12 @@ fn source<'s>(alloc: Global, c: Rules, text: &[u8], ts: &'s [Terminal]) -> Resul
 }
 
 #[tactic(auto, unfolding(grammar_reading::specs::UnitReading::halves_at))]
-fn both_halves<'s>(alloc: Global, c: Rules, text: &[u8], ts: &'s [Terminal]) -> Result<(Halves, &'s [Terminal]), ParseError>
+fn both_halves<'s>(
+    alloc: Global,
+    c: Rules,
+    text: &[u8],
+    ts: &'s [Terminal],
+) -> Result<(Halves, &'s [Terminal]), ParseError>
     ensures { Gives (λ x. ((t.stmts x.0.before, t.stmts x.0.behind), all_seen text.now x.1.now)) result (spec.halves_at c (all_seen text.now ts.entry.now)) }
 {
     let begin = [
@@ -136,13 +157,21 @@ fn joined(halves: Halves) -> Result<Stmts, OutOfMemory>
 
 /// The body of a printed function with so many arrays, behind its declarations.
 #[tactic(auto, unfolding(grammar_reading::specs::UnitReading::printed_body))]
-fn printed_body<'s>(alloc: Global, c: Rules, arrays: usize, text: &[u8], ts: &'s [Terminal]) -> Result<(Stmts, &'s [Terminal]), ParseError>
+fn printed_body<'s>(
+    alloc: Global,
+    c: Rules,
+    arrays: usize,
+    text: &[u8],
+    ts: &'s [Terminal],
+) -> Result<(Stmts, &'s [Terminal]), ParseError>
     ensures { Gives (λ x. (t.stmts x.0, all_seen text.now x.1.now)) result (spec.printed_body c arrays (all_seen text.now ts.entry.now)) }
 {
     let (halves, rest) = both_halves(alloc, c, text, ts)?;
     let rest = verdict(arrays, text, rest)?;
     let rest = expect(Symbol::CloseBrace, text, rest)?;
-    if !all_checks_below(arrays, halves.before.as_slice()) || !all_checks_below(arrays, halves.behind.as_slice()) {
+    if !all_checks_below(arrays, halves.before.as_slice())
+        || !all_checks_below(arrays, halves.behind.as_slice())
+    {
         return Err(ParseError::Syntax(ts.len()));
     }
     Ok((joined(halves)?, rest))
@@ -150,7 +179,12 @@ fn printed_body<'s>(alloc: Global, c: Rules, arrays: usize, text: &[u8], ts: &'s
 
 /// A printed unit, behind the preamble.
 #[tactic(auto, unfolding(grammar_reading::specs::UnitReading::printed_at))]
-fn printed<'s>(alloc: Global, c: Rules, text: &[u8], ts: &'s [Terminal]) -> Result<(Unit, &'s [Terminal]), ParseError>
+fn printed<'s>(
+    alloc: Global,
+    c: Rules,
+    text: &[u8],
+    ts: &'s [Terminal],
+) -> Result<(Unit, &'s [Terminal]), ParseError>
     ensures { Gives (λ x. (t.unit x.0, all_seen text.now x.1.now)) result (spec.printed_at c (all_seen text.now ts.entry.now)) }
 {
     let version = [
@@ -180,7 +214,12 @@ fn rules_of(printed: bool, turns: usize) -> Rules
 }
 
 /// A unit at the front: a printed one behind a preamble, and else a source.
-fn unit_by_front<'s>(alloc: Global, turns: usize, text: &[u8], ts: &'s [Terminal]) -> Result<(Unit, &'s [Terminal]), ParseError>
+fn unit_by_front<'s>(
+    alloc: Global,
+    turns: usize,
+    text: &[u8],
+    ts: &'s [Terminal],
+) -> Result<(Unit, &'s [Terminal]), ParseError>
     ensures { Gives (λ x. (t.unit x.0, all_seen text.now x.1.now)) result (spec.unit_by turns (all_seen text.now ts.entry.now) (reading.expect s.Preamble (all_seen text.now ts.entry.now))) }
 {
     match after(Symbol::Preamble, text, ts) {

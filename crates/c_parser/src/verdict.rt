@@ -63,7 +63,11 @@ fn totals<'s>(arrays: usize, text: &[u8], ts: &'s [Terminal]) -> Result<&'s [Ter
 
 /// The last statement of a printed function with so many arrays.
 #[tactic(auto, unfolding(grammar_reading::specs::UnitReading::verdict_at))]
-pub fn verdict<'s>(arrays: usize, text: &[u8], ts: &'s [Terminal]) -> Result<&'s [Terminal], ParseError>
+pub fn verdict<'s>(
+    arrays: usize,
+    text: &[u8],
+    ts: &'s [Terminal],
+) -> Result<&'s [Terminal], ParseError>
     ensures { Gives (λ r. all_seen text.now r.now) result (spec.verdict_at arrays (all_seen text.now ts.entry.now)) }
 {
     let value = expect(Symbol::Return, text, ts)?;

@@ -38,7 +38,12 @@ fn is_numbered(word: &[u8], front: &[u8], number: u64) -> bool
 }
 
 #[tactic(auto, unfolding(grammar_reading::specs::Blocks::this_name))]
-fn this_total<'s>(front: &[u8], array: u64, text: &[u8], ts: &'s [Terminal]) -> Result<&'s [Terminal], ParseError>
+fn this_total<'s>(
+    front: &[u8],
+    array: u64,
+    text: &[u8],
+    ts: &'s [Terminal],
+) -> Result<&'s [Terminal], ParseError>
     ensures { Gives (λ r. all_seen text.now r.now) result (blocks.this_name (front.now ++ decimal array) (all_seen text.now ts.entry.now)) }
 {
     let (place, rest) = name(text, ts)?;
@@ -66,7 +71,11 @@ impl Wanted {
 
 /// What follows these tokens.
 #[tactic(auto, using(crate::proofs::WantedLemmas::fixed_goes_on, crate::proofs::WantedLemmas::fixed_stops, crate::proofs::WantedLemmas::fixed_ends))]
-pub fn fixed<'s>(tokens: &[Wanted], text: &[u8], ts: &'s [Terminal]) -> Result<&'s [Terminal], ParseError>
+pub fn fixed<'s>(
+    tokens: &[Wanted],
+    text: &[u8],
+    ts: &'s [Terminal],
+) -> Result<&'s [Terminal], ParseError>
     ensures { Gives (λ r. all_seen text.now r.now) result (spec.fixed (lexemes text.now tokens.now) (all_seen text.now ts.entry.now)) }
 {
     let mut rest = ts;

@@ -17,5 +17,5 @@ loop-turn-preserved c =
     let pushed : names.words c.push.new.self ≡ names.words c.loop-turn.wides ++ t.word c.in_ok-declared.declared ∷ [] = ap names.words c.in_ok-push.ensures.ok ∙ map-append t.word c.loop-turn.wides (c.in_ok-declared.declared ∷ []) in
     c.loop-turn.invariant
     ∙ many_goes_on heads.wide_at (spec.begins s.Unsigned) c.args.c.turns c.loop-turn._turn (names.words c.loop-turn.wides) (t.word c.in_ok-declared.declared) (all_seen c.args.text.now c.loop-turn.rest.now) (all_seen c.args.text.now c.in_ok-declared.behind.now)
-        (omega arith) another c.in_ok-declared.ensures
+    (omega arith) another c.in_ok-declared.ensures
     ∙ ap (λ (xs : List Word). spec.wides (c.args.c.turns - (c.loop-turn._turn + 1)) xs (all_seen c.args.text.now c.in_ok-declared.behind.now)) (sym pushed)

@@ -14,5 +14,5 @@ loop-turn-preserved c =
     let pushed : seen.declarations c.push.new.self ≡ seen.declarations c.loop-turn.words ++ seen.declaration c.in_ok-declared.declared ∷ [] = ap seen.declarations c.in_ok-push.ensures.ok ∙ map-append seen.declaration c.loop-turn.words (c.in_ok-declared.declared ∷ []) in
     c.loop-turn.invariant
     ∙ many_goes_on spec.declaration_at spec.declaration_begins c.args.c.turns c.loop-turn._turn (seen.declarations c.loop-turn.words) (seen.declaration c.in_ok-declared.declared) (all_seen c.args.text.now c.loop-turn.rest.now) (all_seen c.args.text.now c.in_ok-declared.behind.now)
-        (omega arith) another c.in_ok-declared.ensures
+    (omega arith) another c.in_ok-declared.ensures
     ∙ ap (λ (xs : List (Word × ℕ)). spec.words (c.args.c.turns - (c.loop-turn._turn + 1)) xs (all_seen c.args.text.now c.in_ok-declared.behind.now)) (sym pushed)

@@ -15,10 +15,10 @@ use Rattle.c_parser.proofs.param.extents.Goals.{then-more-eq0-via-then-more-eq0,
 pub returns-then-more-eq0 : goal.returns-then-more-eq0
 returns-then-more-eq0 c =
     let ends : (c.dims.more ≡ 0) ⊎ (spec.begins s.OpenBracket (all_seen c.args.text.now c.in_ok-extent.behind.now) ≡ false) =
-        elim c.then-more-eq0.branch [
-          | then-more-eq0-via-then-more-eq0 w ↦ inl (first_of (search rules, grind (arith, common_steps)))
-          | then-more-eq0-via-else-more-eq0+then-not-begins w ↦ inr (first_of (search rules, grind (arith, common_steps)))
-        ] in
+    elim c.then-more-eq0.branch [
+      | then-more-eq0-via-then-more-eq0 w ↦ inl (first_of (search rules, grind (arith, common_steps)))
+      | then-more-eq0-via-else-more-eq0+then-not-begins w ↦ inr (first_of (search rules, grind (arith, common_steps)))
+    ] in
     let pushed : t.exprs c.push.new.self ≡ joined (t.exprs c.dims.extents) (more_exprs (t.expr c.in_ok-extent.extent) no_exprs) = ap t.exprs c.in_ok-push.ensures.ok ∙ exprs_push c.dims.extents c.in_ok-extent.extent in
     c.dims.invariant
     ∙ dims_last c.args.c c.dims.more (t.exprs c.dims.extents) (t.expr c.in_ok-extent.extent) (all_seen c.args.text.now c.dims.rest.now) (all_seen c.args.text.now c.in_ok-extent.behind.now) c.in_ok-extent.ensures ends

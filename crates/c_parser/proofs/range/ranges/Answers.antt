@@ -16,5 +16,5 @@ loop-turn-preserved c =
     let pushed : seen.ranges c.push.new.self ≡ seen.ranges c.loop-turn.ranges ++ seen.range c.in_ok-range.range ∷ [] = ap seen.ranges c.in_ok-push.ensures.ok ∙ map-append seen.range c.loop-turn.ranges (c.in_ok-range.range ∷ []) in
     c.loop-turn.invariant
     ∙ many_goes_on heads.range_at (spec.begins s.Directive) c.args.c.turns c.loop-turn._turn (seen.ranges c.loop-turn.ranges) (seen.range c.in_ok-range.range) (all_seen c.args.text.now c.loop-turn.rest.now) (all_seen c.args.text.now c.in_ok-range.behind.now)
-        (omega arith) another c.in_ok-range.ensures
+    (omega arith) another c.in_ok-range.ensures
     ∙ ap (λ (xs : List (Word × ℤ × ℤ)). spec.ranges (c.args.c.turns - (c.loop-turn._turn + 1)) xs (all_seen c.args.text.now c.in_ok-range.behind.now)) (sym pushed)

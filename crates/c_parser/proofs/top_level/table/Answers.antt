@@ -11,7 +11,7 @@ pub returns : goal.returns
 returns c =
     let name_is : t.word c.in_ok-name.name ≡ word_at c.args.text.now c.in_ok-place.place.start c.in_ok-place.place.end = c.in_ok-name.ensures ∙ c.word.ensures in
     table_in_steps c.args.c (all_seen c.args.text.now c.args.ts.now) (all_seen c.args.text.now c.in_ok-rest.rest.now) (all_seen c.args.text.now c.in_ok-place.rest.now) (all_seen c.args.text.now c.in_ok-rest-2.rest.now) (all_seen c.args.text.now c.in_ok-length.rest.now) (all_seen c.args.text.now c.in_ok-rest-3.rest.now)
-      (word_at c.args.text.now c.in_ok-place.place.start c.in_ok-place.place.end) (t.expr c.in_ok-length.length.value) c.in_ok-rest.ensures c.in_ok-place.ensures c.in_ok-rest-2.ensures c.in_ok-length.ensures c.in_ok-rest-3.ensures
+    (word_at c.args.text.now c.in_ok-place.place.start c.in_ok-place.place.end) (t.expr c.in_ok-length.length.value) c.in_ok-rest.ensures c.in_ok-place.ensures c.in_ok-rest-2.ensures c.in_ok-length.ensures c.in_ok-rest-3.ensures
     ∙ ap (λ (x : Word). Some (plain.table x (t.expr c.in_ok-length.length.value), all_seen c.args.text.now c.in_ok-rest-3.rest.now)) (sym name_is)
     ∙ ap (λ (u : PlainExpr). Some (plain.table (t.word c.in_ok-name.name) u, all_seen c.args.text.now c.in_ok-rest-3.rest.now)) (sym (ap t.expr c.into_inner-length.ensures))
     ∙ ap (λ (a : plain.PlainStmt). Some (a, all_seen c.args.text.now c.in_ok-rest-3.rest.now)) (sym (stmt-Table c.in_ok-name.name c.into_inner-length.result))

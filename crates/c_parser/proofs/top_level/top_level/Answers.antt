@@ -17,5 +17,5 @@ loop-turn-preserved c =
     let appended : t.stmts c.append.new.self ≡ chain (t.stmts c.loop-turn.list) (t.stmts c.in_ok-more.more) = ap t.stmts c.in_ok-append.ensures ∙ stmts_join c.loop-turn.list c.in_ok-more.more in
     c.loop-turn.invariant
     ∙ top_goes_on c.args.c c.args.c.turns c.loop-turn._turn (t.stmts c.loop-turn.list) (t.stmts c.in_ok-more.more) (all_seen c.args.text.now c.loop-turn.rest.now) (all_seen c.args.text.now c.in_ok-more.behind.now)
-        (omega arith) no_directive no_return c.in_ok-more.ensures
+    (omega arith) no_directive no_return c.in_ok-more.ensures
     ∙ ap (λ (us : PlainStmts). spec.top c.args.c (c.args.c.turns - (c.loop-turn._turn + 1)) us (all_seen c.args.text.now c.in_ok-more.behind.now)) (sym appended)
