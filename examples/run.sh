@@ -5,7 +5,7 @@ set -eu
 cd "$(dirname "$0")/.."
 echo '== shift.c'
 cat examples/shift.c
-if make -q bin/balance; then
+if make -q bin/balance > /dev/null; then
   echo '== print shift.c'
   bin/balance print examples/shift.c
   echo '== try shift.c shift.data'
