@@ -2,7 +2,6 @@ pub mod Calls
 pub mod Commands
 pub mod Frames
 pub mod Inputs
-pub mod KindOf
 pub mod Lines
 pub mod Met
 pub mod Orders

@@ -1,14 +1,7 @@
 -- The scope that a value of the code stands for.
-use Rattle.std.specs.Prelude.{List, map}
-use Rattle.c_tree.specs.Plain.{Word}
-use Rattle.c_tree.specs.Trees.{word}
-use Rattle.c_tree.specs.Layout.{Scope, inside}
-use Rattle.c_tree.specs.declared.name.Name.{Name}
-use Rattle.balance_cli.specs.declared.layout.scope.Scope.{Scope as TheScope, Head, Loop'}
-
-abbrev pub words : List Name → List Word
-words = map word
+use Rattle.c_tree.specs.Names.{names_around, words}
+use Rattle.c_tree.specs.Layout.{Scope}
+use Rattle.balance_cli.specs.declared.layout.scope.Scope.{Scope as TheScope}
 
 abbrev pub scope_in : TheScope → Scope
-scope_in (Head arrays ints) = record { arrays = words arrays.now; signed = words ints.now }
-scope_in (Loop' x p around) = inside (scope_in around) (word x.now)
+scope_in sc = record { arrays = words sc.arrays.now; signed = names_around sc.signed }

@@ -18,7 +18,7 @@ fn number_of(params: &[Param], name: &Name) -> u32
     let mut number = 1;
     for p in params {
         if let Param::Int(other) = p {
-            if other.bytes.as_slice() == name.bytes.as_slice() {
+            if other.same(name) {
                 return number;
             }
             number += 1;

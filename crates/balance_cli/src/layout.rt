@@ -8,16 +8,15 @@ ghost use Rattle.balance_cli.specs.Scopes.{scope_in};
 
 mod expressions;
 mod head;
-mod kinds;
 mod marks;
 mod power;
 mod scope;
 mod statements;
 mod text;
 
-use c_tree::{OutOfMemory, Unit};
+use c_tree::{OutOfMemory, SignedNames, Unit, array_names, int_names};
 use edge::ByteList;
-use head::{array_names, int_names, put_head, put_wides, put_words};
+use head::{put_head, put_wides, put_words};
 use scope::Scope;
 use statements::put_stmts;
 use std::alloc::Global;
@@ -37,11 +36,12 @@ fn put_body(out: &mut Vec<u8>, scope: &Scope<'_>, unit: &Unit) -> Result<(), Out
 pub fn layout_of(alloc: Global, unit: &Unit) -> Result<ByteList, OutOfMemory>
     ensures { IfOk result (λ text. text ≡ definition.layout (unit_in unit.now)) }
 {
-    let arrays = array_names(alloc, &unit.params)?;
-    let ints = int_names(alloc, &unit.params)?;
-    let scope = Scope::Head {
+    let arrays = array_names(alloc, unit.params.as_slice())?;
+    let ints = int_names(alloc, unit.params.as_slice())?;
+    let signed = SignedNames::Parameters(ints.as_slice());
+    let scope = Scope {
         arrays: arrays.as_slice(),
-        ints: ints.as_slice(),
+        signed,
     };
     let mut out = Vec::new(alloc);
     put_head(&mut out, &scope, unit)?;

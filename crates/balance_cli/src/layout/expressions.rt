@@ -7,11 +7,10 @@ ghost use Rattle.c_tree.specs.Layout.{kind_in, literal_text, expr_text, subscrip
 ghost use Rattle.c_tree.specs.Kinds.{is_signed};
 ghost use Rattle.balance_cli.specs.Scopes.{scope_in};
 
-use super::kinds::{Kind, kind_of};
 use super::marks::{bin_mark, rel_mark, un_mark};
 use super::scope::{Scope, is_array};
 use super::text::{put, put_number};
-use c_tree::{BinOp, Expr, Exprs, Name, OutOfMemory, Rel};
+use c_tree::{BinOp, Expr, Exprs, Kind, Name, OutOfMemory, Rel};
 
 fn is_bin(e: &Expr) -> bool
     ensures { result ≡ layout.is_bin (expr e.now) }
@@ -52,13 +51,13 @@ fn put_big(out: &mut Vec<u8>, high: u64, low: u64) -> Result<(), OutOfMemory>
 fn has_suffix_under_cast(scope: &Scope<'_>, e: &Expr) -> bool
     ensures { result ≡ not (is_signed (kind_in (scope_in scope.now) (expr e.now))) }
 {
-    kind_of(e, scope) != Kind::Signed
+    e.kind(&scope.signed) != Kind::Signed
 }
 
 fn subscript_has_suffix(scope: &Scope<'_>, array: &Name, e: &Expr) -> bool
     ensures { result ≡ layout.subscript_has_suffix (scope_in scope.now) array.now.bytes (expr e.now) }
 {
-    kind_of(e, scope) == Kind::Word || !is_array(scope, array)
+    e.kind(&scope.signed) == Kind::Word || !is_array(scope, array)
 }
 
 /// Literals have a suffix where `suffix` says so, but under casts, comparisons and calls, which say it themselves.

@@ -1,18 +1,17 @@
 //! The text of a unit's head: everything before its statements.
 
-ghost use Rattle.std.specs.Prelude.{◌≡◌, ◌++◌, ℤ, IfOk, OnOk, map};
+ghost use Rattle.std.specs.Prelude.{◌≡◌, ◌++◌, ℤ, OnOk, map};
+ghost use Rattle.c_tree.specs.Names.{words};
 ghost use Rattle.c_tree.specs.Trees.{word, exprs, param, unit as unit_in};
 ghost use Rattle.c_tree.specs.Layout as layout;
-ghost use Rattle.c_tree.specs.Layout.{preamble, version_text, result_text, int_text, ranges_text, arrays_in, ints_in, extents_text, const_text, param_text, params_text, words_text, wides_text};
+ghost use Rattle.c_tree.specs.Layout.{preamble, version_text, result_text, int_text, ranges_text, extents_text, const_text, param_text, params_text, words_text, wides_text};
 ghost use Rattle.balance_cli.specs.Parts as parts;
-ghost use Rattle.balance_cli.specs.Scopes.{words, scope_in};
+ghost use Rattle.balance_cli.specs.Scopes.{scope_in};
 
 use super::expressions::put_expr;
 use super::scope::Scope;
 use super::text::{put, put_number};
 use c_tree::{Exprs, Name, NameList, OutOfMemory, Param, Params, Ranges, Unit, Words};
-use sqlite_items::Items;
-use std::alloc::Global;
 
 /// The functions that a printed text calls.
 const PREAMBLE: &[u8] = b"#include <stdint.h>\n\
@@ -172,32 +171,6 @@ pub fn put_wides(out: &mut Vec<u8>, names: &NameList) -> Result<(), OutOfMemory>
         put_wide(out, name)?;
     }
     Ok(())
-}
-
-/// The names of the arrays, in declared order.
-pub fn array_names(alloc: Global, params: &Params) -> Result<NameList, OutOfMemory>
-    ensures { IfOk result (λ names. words names ≡ arrays_in (map param params.now)) }
-{
-    let mut names = Items::new(alloc);
-    for p in params.as_slice() {
-        if let Param::Array { name, .. } = p {
-            names.push(name.copy(alloc)?)?;
-        }
-    }
-    Ok(names)
-}
-
-/// The names of the `int64_t` parameters, in declared order.
-pub fn int_names(alloc: Global, params: &Params) -> Result<NameList, OutOfMemory>
-    ensures { IfOk result (λ names. words names ≡ ints_in (map param params.now)) }
-{
-    let mut names = Items::new(alloc);
-    for p in params.as_slice() {
-        if let Param::Int(name) = p {
-            names.push(name.copy(alloc)?)?;
-        }
-    }
-    Ok(names)
 }
 
 // The function's name and its parameters.

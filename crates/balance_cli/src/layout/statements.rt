@@ -1,19 +1,19 @@
 //! The text of statements, a line each.
 
 ghost use Rattle.std.specs.Prelude.{◌≡◌, ◌++◌, OnOk, codes};
+ghost use Rattle.c_tree.specs.Names.{words};
 ghost use Rattle.c_tree.specs.Trees.{expr, tests as tests_in, a_test, stmt, stmts};
 ghost use Rattle.c_tree.specs.Layout as layout;
 ghost use Rattle.c_tree.specs.Layout.{expr_text, test_text, tests_text, more_tests_text, indent, end_line, pair_text, more_pairs_text, verdict_text, stmt_text, stmts_text, else_text};
 ghost use Rattle.balance_cli.specs.Parts as parts;
-ghost use Rattle.balance_cli.specs.Scopes.{words, scope_in};
+ghost use Rattle.balance_cli.specs.Scopes.{scope_in};
 
 use super::expressions::{put_comparison, put_expr};
-use super::kinds::{Kind, join, kind_of};
 use super::marks::{bin_mark, rel_mark};
 use super::power::put_index_bit;
-use super::scope::{Scope, arrays_of};
+use super::scope::Scope;
 use super::text::{one_deeper, put, put_close, put_indent, put_number};
-use c_tree::{BinOp, Expr, Name, OutOfMemory, Rel, Stmt, Stmts, Tests};
+use c_tree::{BinOp, Expr, Kind, Name, OutOfMemory, Rel, SignedNames, Stmt, Stmts, Tests};
 
 fn put_test(
     out: &mut Vec<u8>,
@@ -23,7 +23,7 @@ fn put_test(
     ensures { OnOk result (out.new.items ≡ out.old.items ++ test_text (scope_in scope.now) (a_test test.now)) }
 {
     let (rel, a, b) = test;
-    let suffix = join(kind_of(a, scope), kind_of(b, scope)) == Kind::Word;
+    let suffix = a.kind(&scope.signed).join(b.kind(&scope.signed)) == Kind::Word;
     put_comparison(out, scope, suffix, *rel, a, b)
 }
 
@@ -209,7 +209,7 @@ fn put_return(out: &mut Vec<u8>, scope: &Scope<'_>, depth: usize) -> Result<(), 
 {
     put_indent(out, depth)?;
     put(out, b"return ")?;
-    put_verdict(out, arrays_of(scope))?;
+    put_verdict(out, scope.arrays)?;
     put(out, b";\n")
 }
 
@@ -233,7 +233,10 @@ pub fn put_stmt<'x>(
         } => {
             put_loop_start(out, scope, depth, var, lo)?;
             put_loop_end(out, scope, var, *rel, hi)?;
-            let inner = Scope::Loop { var, around: scope };
+            let inner = Scope {
+                arrays: scope.arrays,
+                signed: SignedNames::Inside(var, &scope.signed),
+            };
             put_block(out, &inner, depth, body)?;
             put(out, b"\n")
         }

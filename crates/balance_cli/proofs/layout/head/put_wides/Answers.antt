@@ -1,7 +1,7 @@
 use Rattle.c_tree.specs.Trees.{word}
 use Rattle.c_tree.specs.Layout.{wides_text}
 use Rattle.balance_cli.specs.Parts.{wide_line}
-use Rattle.balance_cli.specs.Scopes.{words}
+use Rattle.c_tree.specs.Names.{words}
 use Rattle.balance_cli.proofs.Parts.{wides-cons}
 use Rattle.balance_cli.proofs.Pieces.{line_more}
 use Rattle.balance_cli.proofs.layout.head.put_wides.Goals as goal

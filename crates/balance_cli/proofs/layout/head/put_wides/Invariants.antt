@@ -1,6 +1,6 @@
 use Rattle.std.proofs.Common.{◌≡◌, ◌++◌, drop}
 use Rattle.c_tree.specs.Layout.{wides_text}
-use Rattle.balance_cli.specs.Scopes.{words}
+use Rattle.c_tree.specs.Names.{words}
 use Rattle.balance_cli.proofs.layout.head.put_wides.Given as goal
 
 abbrev pub invariant-loop-name : goal.invariant-loop-name

@@ -1,6 +1,6 @@
 use Rattle.std.proofs.Common.{◌≡◌, ◌+◌, ◌++◌, drop}
 use Rattle.c_tree.specs.Layout.{verdict_text, more_pairs_text}
-use Rattle.balance_cli.specs.Scopes.{words}
+use Rattle.c_tree.specs.Names.{words}
 use Rattle.balance_cli.proofs.layout.statements.put_verdict.Given as goal
 
 abbrev pub invariant-loop-index : goal.invariant-loop-index

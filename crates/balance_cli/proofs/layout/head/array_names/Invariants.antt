@@ -1,8 +1,0 @@
-use Rattle.std.proofs.Common.{◌≡◌, ◌++◌, drop, map}
-use Rattle.c_tree.specs.Trees.{param}
-use Rattle.c_tree.specs.Layout.{arrays_in}
-use Rattle.balance_cli.specs.Scopes.{words}
-use Rattle.balance_cli.proofs.layout.head.array_names.Given as goal
-
-abbrev pub invariant-loop-p : goal.invariant-loop-p
-invariant-loop-p l = words l.names ++ arrays_in (map param (drop l.p-index l.p-items)) ≡ arrays_in (map param l.p-items)
