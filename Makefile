@@ -1,25 +1,32 @@
-# make run: prove and build the program; show examples/shift.c, its guarded text, and a run of that.
-# make test: run the gate, as CI does.
-# make bench: time runs of the interpreter.
-PROGRAM := crates/balance_cli/out/balance_cli
+# `make help` lists the targets.
+PROGRAM := bin/balance
 PREFIX ?= /usr/local
+SOURCES := $(shell find crates -name out -prune -o \( -name '*.rt' -o -name '*.antt' \) -print) crates.txt
 
-.PHONY: run test bench install
+.PHONY: help run build install test bench
 
-$(PROGRAM): $(shell find crates -name out -prune -o \( -name '*.rt' -o -name '*.antt' \) -print) crates.txt
+help:
+	@echo 'make run      show examples/shift.c, its guarded text, and a run of that'
+	@echo 'make build    prove and build the program: $(PROGRAM)'
+	@echo 'make install  copy that to $(PREFIX)/bin/balance (PREFIX=.., DESTDIR=..)'
+	@echo 'make test     run the gate, as CI does'
+	@echo 'make bench    time runs of the interpreter beside a tree walk in C and gcc'
+
+# The program lies outside of crates/, whose folders out/ the gate removes.
+$(PROGRAM): $(SOURCES)
 	cd crates/balance_cli && rt run -- print ../../examples/shift.c > /dev/null
-	touch $@
+	install -D crates/balance_cli/out/balance_cli $@
 
-run: $(PROGRAM)
-	@cat examples/shift.c
-	@$(PROGRAM) print examples/shift.c
-	@$(PROGRAM) try examples/shift.c examples/shift.data
+build: $(PROGRAM)
 
-bench: $(PROGRAM)
-	@benches/run.sh
+install: $(PROGRAM)
+	install -D $(PROGRAM) $(DESTDIR)$(PREFIX)/bin/balance
+
+run:
+	@examples/run.sh
 
 test:
 	.ci/run
 
-install: $(PROGRAM)
-	install -D $(PROGRAM) $(DESTDIR)$(PREFIX)/bin/balance
+bench: $(PROGRAM)
+	@benches/run.sh

@@ -1,15 +1,14 @@
 -- The clauses of the top call, from what its stages and its ending say.
-use Rattle.std.proofs.Common.{◌≡◌, ◌⊎◌, [], Option, Some, None, Result, Ok, Err, inl, inr, sym, ◌∙◌, ap, subst, refl}
+use Rattle.std.proofs.Common.{◌≡◌, ◌⊎◌, ℕ, List, [], Option, Some, None, Result, Ok, Err, inl, inr, sym, ◌∙◌, ap, subst, refl, arith}
 use Rattle.std.proofs.lemmas.Option.{none-some}
 use Rattle.edge.specs.Causes.{Rose}
-use Rattle.data_file.specs.Laws.{HasOneAnswer}
 use Rattle.balance_cli.specs.Calls.{IsWritten, IsTold, IsEnding, IsAnswer, IsCall, Tries}
 use Rattle.balance_cli.specs.Lines.{line_of}
-use Rattle.balance_cli.specs.Met.{Met}
+use Rattle.balance_cli.specs.Met.{Met, files_before}
 use Rattle.balance_cli.specs.Orders.{Order, print, run_file, attempt, files_of}
-use Rattle.balance_cli.specs.Plans.{Files, plan_of, Follows, AsksOnly, Ends}
+use Rattle.balance_cli.specs.Plans.{Files, plan_of, Follows, AsksOnly, Ends, Defined}
 use Rattle.balance_cli.specs.Statuses.{status_of, finish_status, ideal_status}
-use Rattle.balance_cli.specs.Table.{Cause, IsDone, AsksInOrder, IsCalm, EndsAsDefined}
+use Rattle.balance_cli.specs.Table.{Cause, IsDone, AsksInOrder, IsQuiet, IsFulfilled, IsComplete, IsCalm, EndsAsDefined}
 use Rattle.balance_cli.specs.declared.stages.Finish.{Finish}
 use Rattle.balance_cli.specs.declared.stages.Finish.TheVariants as finish
 use Rattle.balance_cli.specs.declared.stages.Output.{Output}
@@ -18,22 +17,26 @@ use Rattle.balance_cli.specs.declared.stages.Stop.TheVariants.{ReadFault, TooLon
 use Rattle.balance_cli.specs.declared.status.Status.{Status}
 use Rattle.balance_cli.specs.declared.status.Status.TheVariants as status
 use Rattle.balance_cli.proofs.Plans.{asked_nothing, form_of_accepted}
-use Rattle.balance_cli.proofs.Endings.{defined_end, fault_end, asked_end, IsCalmFor, IsJudgedOnce, HasFrames, determined}
+use Rattle.balance_cli.proofs.Endings.{defined_end, fault_end, asked_end, IsCalmFor, HasForms, determined}
+use Rattle.balance_cli.proofs.SomeEnding.{Laws, some_ending, passing_end}
 
 done_so : (order : Order) (m : Met) (f : Finish) → IsDone order f m → Cause (Some order) m (finish_status f)
 done_so order m finish.Done done = done
 done_so order m finish.Reported done = done
 done_so order m finish.Outside done = done
 
+is_done : (order : Order) (m : Met) (ends : Status) (output : Output) → Follows (plan_of order) m.shelf_before m.shelf (Ok output) → IsWritten output m.out_before m.out m.err_before m.err ends → IsDone order output.finish m
+is_done order m ends output follows written = record {
+  output = output;
+  defined = defined_end (plan_of order) _ _ follows.names (Ok output) tt follows.ends;
+  finish = refl;
+  whole = written.whole;
+  no_line = written.no_line;
+}
+
 done_cause : (order : Order) (m : Met) (ends : Status) (output : Output) → Follows (plan_of order) m.shelf_before m.shelf (Ok output) → IsWritten output m.out_before m.out m.err_before m.err ends → Cause (Some order) m ends
 done_cause order m ends output follows written =
-    subst (Cause (Some order) m) (sym written.status) (done_so order m output.finish (record {
-      output = output;
-      defined = defined_end (plan_of order) _ _ follows.names (Ok output) tt follows.ends;
-      finish = refl;
-      whole = written.whole;
-      no_line = written.no_line;
-    }))
+    subst (Cause (Some order) m) (sym written.status) (done_so order m output.finish (is_done order m ends output follows written))
 
 stop_cause : (order : Order) (m : Met) (cause : Stop) (ends : Status) → ends ≡ status_of cause → Follows (plan_of order) m.shelf_before m.shelf (Err cause) → m.out ≡ m.out_before → Tries m.err_before m.err (line_of order cause) → Cause (Some order) m ends
 stop_cause order m (ReadFault word) ends is follows unwritten line =
@@ -110,10 +113,10 @@ plan_asks (print source) = (refl, λ text unit. tt)
 plan_asks (run_file file input) = (refl, λ text unit. (refl, λ bytes inputs. tt))
 plan_asks (attempt source input) = (refl, λ text unit. (refl, λ bytes inputs. tt))
 
-plan_has_frames : (order : Order) → HasFrames (plan_of order)
-plan_has_frames (print source) = λ text unit is. tt
-plan_has_frames (run_file file input) = λ text unit is bytes. (form_of_accepted text unit is, λ inputs. tt)
-plan_has_frames (attempt source input) = λ text unit is bytes. (form_of_accepted text unit is, λ inputs. tt)
+plan_has_forms : (order : Order) → HasForms (plan_of order)
+plan_has_forms (print source) = λ text within unit is. form_of_accepted text unit is
+plan_has_forms (run_file file input) = λ text within unit is bytes few. (form_of_accepted text unit is, λ inputs. tt)
+plan_has_forms (attempt source input) = λ text within unit is bytes few. (form_of_accepted text unit is, λ inputs. form_of_accepted text unit is)
 
 no_order_asks : (m : Met) (ends : Status) → IsAnswer None m ends → m.shelf ≡ m.shelf_before
 no_order_asks m ends (inl misused) = misused.1.unread
@@ -151,7 +154,7 @@ Agree outcome ideal = (ideal_status outcome ≡ ideal_status ideal) ⊎ (outcome
 
 -- the output doesn't fail where the outcome is a text
 never_cut : (m : Met) (output : Output) (ideal : Result Output Stop) → IsCalm ideal m → Agree (Ok output) ideal → Rose m.out_before.faults m.out.faults → ⊥
-never_cut m output (Ok other) calm (inl same) rose = calm.1 rose
+never_cut m output (Ok other) calm (inl same) rose = calm.out rose
 never_cut m output (Err cause) calm (inl same) rose = apart output.finish cause same
 never_cut m output ideal calm (inr wanting) rose = cc
 
@@ -170,17 +173,46 @@ ended order m ends (Ok output) ideal calm (inr cut) agree = absurd (never_cut m 
 ended order m ends (Err cause) ideal calm refused agree = refused_ended order cause m ends ideal refused.line agree
 
 calm_shelf : (ideal : Result Output Stop) (m : Met) → IsCalm ideal m → IsCalmFor ideal (Rose m.shelf_before.faults m.shelf.faults)
-calm_shelf (Ok output) m calm = calm.0
+calm_shelf (Ok output) m calm = calm.shelf
 calm_shelf (Err (ReadFault word)) m calm = tt
 calm_shelf (Err (TooLong word)) m calm = calm
 calm_shelf (Err (SourceRefused refusal)) m calm = calm
 calm_shelf (Err (DataRefused why)) m calm = calm
 calm_shelf (Err NoMemory) m calm = calm
 
-pub complete : IsJudgedOnce → HasOneAnswer → (order : Option Order) (m : Met) (ends : Status) → IsCall order m ends → EndsAsDefined order m ends
-complete once read_once None m ends called = tt
-complete once read_once (Some order) m ends called = λ files ideal told defined calm.
-    let follows = called.answer.follows in
-    let P : Files → Type 0 = λ fs. Ends (plan_of order) fs (Rose m.shelf_before.faults m.shelf.faults) follows.names called.answer.outcome in
-    ended order m ends called.answer.outcome ideal calm called.answer.ending
-    (determined once read_once (plan_of order) files _ follows.names called.answer.outcome ideal (plan_has_frames order) (calm_shelf ideal m calm) (subst P told follows.ends) defined)
+-- the outcome of a call agrees with each that is defined
+agrees : Laws → (order : Order) (files : List (List ℕ × List ℕ)) (m : Met) (outcome ideal : Result Output Stop) → Follows (plan_of order) m.shelf_before m.shelf outcome → files_before m ≡ Some files → Defined (plan_of order) (Some files) ideal → IsCalm ideal m → Agree outcome ideal
+agrees laws order files m outcome ideal follows told defined calm =
+    let P : Files → Type 0 = λ fs. Ends (plan_of order) fs (Rose m.shelf_before.faults m.shelf.faults) follows.names outcome in
+    determined laws.texts laws.one_answer (plan_of order) files _ follows.names outcome ideal (plan_has_forms order) (calm_shelf ideal m calm) (subst P told follows.ends) defined
+
+pub determined_end : Laws → (order : Option Order) (m : Met) (ends : Status) → IsCall order m ends → EndsAsDefined order m ends
+determined_end laws None m ends called = tt
+determined_end laws (Some order) m ends called = λ files told.
+    let some = some_ending laws (plan_of order) files (plan_has_forms order) in
+    record {
+      ideal = some.0;
+      defined = some.1;
+      ends = λ outcome defined calm.
+          ended order m ends called.answer.outcome outcome calm called.answer.ending
+          (agrees laws order files m called.answer.outcome outcome called.answer.follows told defined calm);
+    }
+
+-- an outcome that agrees with a text is a text that is written whole, or memory is wanting
+fulfilled : (order : Order) (m : Met) (ends : Status) (outcome : Result Output Stop) (ideal : Output) → IsQuiet m → Follows (plan_of order) m.shelf_before m.shelf outcome → IsEnding order outcome m.out_before m.out m.err_before m.err ends → Agree outcome (Ok ideal) → IsFulfilled order m ends ⊎ (ends ≡ status.NoMemory)
+fulfilled order m ends (Ok output) ideal quiet follows (inl written) agree =
+    inl (record { how = output.finish; status_is = written.status; done = is_done order m ends output follows written })
+fulfilled order m ends (Ok output) ideal quiet follows (inr cut) agree = absurd (quiet.out cut.rose)
+fulfilled order m ends (Err cause) ideal quiet follows refused (inl same) = absurd (apart ideal.finish cause (sym same))
+fulfilled order m ends (Err cause) ideal quiet follows refused (inr wanting) = inr (go refused.line)
+  where
+    go : IsTold order cause m.err_before m.err ends → ends ≡ status.NoMemory
+    go (inl told) = told.0 ∙ ap ideal_status wanting
+    go (inr no_memory) = no_memory.0
+
+pub complete : Laws → (order : Option Order) (m : Met) (ends : Status) → IsCall order m ends → IsComplete order m ends
+complete laws None m ends called = tt
+complete laws (Some order) m ends called = λ files told passes quiet.
+    let text = passing_end laws (plan_of order) files (plan_has_forms order) passes in
+    fulfilled order m ends called.answer.outcome text.0 quiet called.answer.follows called.answer.ending
+    (agrees laws order files m called.answer.outcome (Ok text.0) called.answer.follows told text.1 quiet)

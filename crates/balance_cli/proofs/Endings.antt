@@ -5,8 +5,6 @@ use Rattle.edge.specs.Files.{file_of}
 use Rattle.c_tree.specs.Inputs.{PlainInputs}
 use Rattle.c_tree.specs.OneLoop.{IsOneLoop}
 use Rattle.c_tree.specs.Plain.{PlainUnit}
-use Rattle.c_tree.specs.declared.refusal.Refusal.{Refusal}
-use Rattle.c_tree.specs.declared.refusal.Refusal.TheVariants as refusal
 use Rattle.c_tree.specs.Run.{run}
 use Rattle.c_tree.specs.declared.frame.Inputs.{Inputs}
 use Rattle.data_file.specs.Laws.{HasOneAnswer}
@@ -15,13 +13,14 @@ use Rattle.balance_cli.specs.Frames.{frame_in}
 use Rattle.balance_cli.specs.Inputs.{IsMeant, IsDataRefused, carried}
 use Rattle.balance_cli.specs.Runs.{IsTried, finish_of}
 use Rattle.balance_cli.specs.Plans.{Plan, load, judge, print_unit, read, run_unit, try_unit, Files, Ends, Defined, Reaches, AsksOnly}
-use Rattle.balance_cli.specs.Sources.{Accepts, Refuses}
+use Rattle.balance_cli.specs.Sources.{Accepts}
 use Rattle.balance_cli.specs.Statuses.{finish_status, ideal_status}
 use Rattle.balance_cli.specs.declared.stages.FileWord.{FileWord}
 use Rattle.balance_cli.specs.declared.stages.Output.{Output}
 use Rattle.balance_cli.specs.declared.stages.Stop.{Stop}
 use Rattle.balance_cli.specs.declared.stages.Stop.TheVariants.{ReadFault, TooLong, SourceRefused, DataRefused, NoMemory}
 use Rattle.balance_cli.proofs.Framed.{frame_of_form}
+use Rattle.balance_cli.proofs.TextLaws.{TextLaws, judged_once}
 
 -- neither a fault nor want of memory
 abbrev pub IsOwn : Result Output Stop → Type 0
@@ -49,9 +48,9 @@ defined_end (load word name limit next) files rose names outcome own (inr (inl h
 defined_end (load word name limit next) files rose names outcome own (inr (inr (inl h))) = inr (inl (h.2, h.1))
 defined_end (load word name limit next) files rose names outcome own (inr (inr (inr h))) =
     inr (inr (h.0, h.2, h.3, defined_end (next h.0) files rose h.1 outcome own h.5))
-defined_end (judge text next) files rose names outcome own (inl h) = absurd (subst IsOwn h.1 own)
-defined_end (judge text next) files rose names outcome own (inr (inl h)) = inl (h.0, h.1, h.3)
-defined_end (judge text next) files rose names outcome own (inr (inr h)) = inr (h.0, h.1, defined_end (next h.0) files rose names outcome own h.2)
+defined_end (judge kind text next) files rose names outcome own (inl h) = absurd (subst IsOwn h.1 own)
+defined_end (judge kind text next) files rose names outcome own (inr (inl h)) = inl (h.0, h.1, h.3)
+defined_end (judge kind text next) files rose names outcome own (inr (inr h)) = inr (h.0, h.1, defined_end (next h.0) files rose names outcome own h.2)
 defined_end (print_unit source) files rose names outcome own (e, inl h) = h
 defined_end (print_unit source) files rose names outcome own (e, inr h) = absurd (subst IsOwn h own)
 defined_end (read head text next) files rose names outcome own (inl h) = absurd (subst IsOwn h.1 own)
@@ -70,9 +69,9 @@ fault_end (load word name limit next) files rose names at outcome fault (inr (in
 fault_end (load word name limit next) files rose names at outcome fault (inr (inr (inl h))) = absurd (subst (IsFaultAt at) h.1 fault)
 fault_end (load word name limit next) files rose names at outcome fault (inr (inr (inr h))) =
     let rest = fault_end (next h.0) files rose h.1 at outcome fault h.5 in (rest.0, inr (h.0, h.2, h.3, rest.1))
-fault_end (judge text next) files rose names at outcome fault (inl h) = absurd (subst (IsFaultAt at) h.1 fault)
-fault_end (judge text next) files rose names at outcome fault (inr (inl h)) = absurd (subst (IsFaultAt at) h.3 fault)
-fault_end (judge text next) files rose names at outcome fault (inr (inr h)) =
+fault_end (judge kind text next) files rose names at outcome fault (inl h) = absurd (subst (IsFaultAt at) h.1 fault)
+fault_end (judge kind text next) files rose names at outcome fault (inr (inl h)) = absurd (subst (IsFaultAt at) h.3 fault)
+fault_end (judge kind text next) files rose names at outcome fault (inr (inr h)) =
     let rest = fault_end (next h.0) files rose names at outcome fault h.2 in (rest.0, (h.0, h.1, rest.1))
 fault_end (print_unit source) files rose names at outcome fault (e, inl h) = absurd (subst (IsFaultAt at) h.2 fault)
 fault_end (print_unit source) files rose names at outcome fault (e, inr h) = absurd (subst (IsFaultAt at) h fault)
@@ -100,20 +99,15 @@ asked_end (load word name limit next) (first ∷ words) files rose names outcome
 asked_end (load word name limit next) (first ∷ words) files rose names outcome asks (inr (inr (inr h))) =
     let rest = asked_end (next h.0) words files rose h.1 outcome (asks.1 h.0) h.5 in
     (rest.0, ap (λ n. n ∷ words) (sym asks.0) ∙ ap (λ ws. name ∷ ws) rest.1 ∙ ap (λ ns. ns ++ rest.0) (sym h.4))
-asked_end (judge text next) words files rose names outcome asks (inl h) = none_asked names words h.0
-asked_end (judge text next) words files rose names outcome asks (inr (inl h)) = none_asked names words h.2
-asked_end (judge text next) words files rose names outcome asks (inr (inr h)) = asked_end (next h.0) words files rose names outcome (asks h.0) h.2
+asked_end (judge kind text next) words files rose names outcome asks (inl h) = none_asked names words h.0
+asked_end (judge kind text next) words files rose names outcome asks (inr (inl h)) = none_asked names words h.2
+asked_end (judge kind text next) words files rose names outcome asks (inr (inr h)) = asked_end (next h.0) words files rose names outcome (asks h.0) h.2
 asked_end (print_unit source) words files rose names outcome asks h = none_asked names words h.0
 asked_end (read head text next) words files rose names outcome asks (inl h) = none_asked names words h.0
 asked_end (read head text next) words files rose names outcome asks (inr (inl h)) = none_asked names words h.2
 asked_end (read head text next) words files rose names outcome asks (inr (inr h)) = asked_end (next h.0) words files rose names outcome (asks h.0) h.2
 asked_end (run_unit source inputs) words files rose names outcome asks h = none_asked names words h.0
 asked_end (try_unit source inputs) words files rose names outcome asks h = none_asked names words h.0
-
--- a text that has a unit isn't refused
-judged_once : (text : List ℕ) (unit : PlainUnit) (why : Refusal) → Accepts text unit → Refuses text why → ⊥
-judged_once text unit refusal.Unbuilt one two = two unit one
-judged_once text unit _ one two = two
 
 -- a fault doesn't matter to this outcome
 abbrev pub IsCalmFor : Result Output Stop → Type 0 → Type 0
@@ -141,18 +135,14 @@ not_both : (file : Option (List ℕ)) (long short : List ℕ) (limit : ℕ) → 
 not_both file long short limit above one within two =
     let lengths : length long ≡ length short = ap (λ b. length b) (same_Some long short (sym one ∙ two)) in absurd (omega arith)
 
--- a text has one unit
-abbrev pub IsJudgedOnce : Type 0
-IsJudgedOnce = (text : List ℕ) (u v : PlainUnit) → Accepts text u → Accepts text v → u ≡ v
-
--- a data text is read by the head of a unit of the one-loop form
-abbrev pub HasFrames : Plan → Type 0
-HasFrames (load word name limit next) = (bytes : List ℕ) → HasFrames (next bytes)
-HasFrames (judge text next) = (unit : PlainUnit) → Accepts text unit → HasFrames (next unit)
-HasFrames (read head text next) = IsOneLoop head × ((inputs : PlainInputs) → HasFrames (next inputs))
-HasFrames (print_unit source) = Unit {0}
-HasFrames (run_unit source inputs) = Unit {0}
-HasFrames (try_unit source inputs) = Unit {0}
+-- a unit that is taken is of the one-loop form
+abbrev pub HasForms : Plan → Type 0
+HasForms (load word name limit next) = (bytes : List ℕ) → length bytes ≤ limit → HasForms (next bytes)
+HasForms (judge kind text next) = (unit : PlainUnit) → Accepts text unit → HasForms (next unit)
+HasForms (print_unit source) = IsOneLoop source
+HasForms (read head text next) = IsOneLoop head × ((inputs : PlainInputs) → HasForms (next inputs))
+HasForms (run_unit source inputs) = Unit {0}
+HasForms (try_unit source inputs) = IsOneLoop source
 
 not_an_error : {E : Type 0} (i : Inputs) (e : E) → Ok i ≡ Err e → ⊥
 not_an_error i e same = cc
@@ -181,7 +171,7 @@ tried_once source inputs o p one two =
     one.finish ∙ ap (λ u. finish_of (run u inputs None).verdict) (one.made ∙ sym two.made) ∙ sym two.finish
 
 -- over files that are told a plan ends as defined, but for faults and want of memory
-pub determined : IsJudgedOnce → HasOneAnswer → (plan : Plan) (files : List (List ℕ × List ℕ)) (rose : Type 0) (names : List (List ℕ)) (outcome ideal : Result Output Stop) → HasFrames plan → IsCalmFor ideal rose → Ends plan (Some files) rose names outcome → Defined plan (Some files) ideal → (ideal_status outcome ≡ ideal_status ideal) ⊎ (outcome ≡ Err NoMemory)
+pub determined : TextLaws → HasOneAnswer → (plan : Plan) (files : List (List ℕ × List ℕ)) (rose : Type 0) (names : List (List ℕ)) (outcome ideal : Result Output Stop) → HasForms plan → IsCalmFor ideal rose → Ends plan (Some files) rose names outcome → Defined plan (Some files) ideal → (ideal_status outcome ≡ ideal_status ideal) ⊎ (outcome ≡ Err NoMemory)
 unfolding Ends Defined
 determined once answer (load word name limit next) files rose names outcome ideal forms calm (inl h) d = inr h.1
 determined once answer (load word name limit next) files rose names outcome ideal forms calm (inr (inl h)) d = inl (ap ideal_status h.1 ∙ fault_as_ideal word rose ideal calm h.2)
@@ -195,14 +185,14 @@ determined once answer (load word name limit next) files rose names outcome idea
 determined once answer (load word name limit next) files rose names outcome ideal forms calm (inr (inr (inr h))) (inr (inr d)) =
     let same : d.0 ≡ h.0 = same_Some d.0 h.0 (sym d.2 ∙ h.3) in
     let P : List ℕ → Type 0 = λ b. Defined (next b) (Some files) ideal in
-    determined once answer (next h.0) files rose h.1 outcome ideal (forms h.0) calm h.5 (subst P same d.3)
-determined once answer (judge text next) files rose names outcome ideal forms calm (inl h) d = inr h.1
-determined once answer (judge text next) files rose names outcome ideal forms calm (inr (inl h)) (inl d) = inl (ap ideal_status h.3 ∙ ap ideal_status (sym d.2))
-determined once answer (judge text next) files rose names outcome ideal forms calm (inr (inl h)) (inr d) = absurd (judged_once text d.0 h.0 d.1 h.1)
-determined once answer (judge text next) files rose names outcome ideal forms calm (inr (inr h)) (inl d) = absurd (judged_once text h.0 d.0 h.1 d.1)
-determined once answer (judge text next) files rose names outcome ideal forms calm (inr (inr h)) (inr d) =
+    determined once answer (next h.0) files rose h.1 outcome ideal (forms h.0 h.2) calm h.5 (subst P same d.3)
+determined once answer (judge kind text next) files rose names outcome ideal forms calm (inl h) d = inr h.1
+determined once answer (judge kind text next) files rose names outcome ideal forms calm (inr (inl h)) (inl d) = inl (ap ideal_status h.3 ∙ ap ideal_status (sym d.2))
+determined once answer (judge kind text next) files rose names outcome ideal forms calm (inr (inl h)) (inr d) = absurd (judged_once once kind text d.0 h.0 d.1 h.1)
+determined once answer (judge kind text next) files rose names outcome ideal forms calm (inr (inr h)) (inl d) = absurd (judged_once once kind text h.0 d.0 h.1 d.1)
+determined once answer (judge kind text next) files rose names outcome ideal forms calm (inr (inr h)) (inr d) =
     let P : PlainUnit → Type 0 = λ u. Defined (next u) (Some files) ideal in
-    determined once answer (next h.0) files rose names outcome ideal (forms h.0 h.1) calm h.2 (subst P (once text d.0 h.0 d.1 h.1) d.2)
+    determined once answer (next h.0) files rose names outcome ideal (forms h.0 h.1) calm h.2 (subst P (once.once text d.0 h.0 d.1.is_text h.1.is_text) d.2)
 determined once answer (print_unit source) files rose names outcome ideal forms calm (e, inl h) d =
     inl (ap ideal_status h.2 ∙ ap finish_status (h.1.done ∙ sym d.1.done) ∙ ap ideal_status (sym d.2))
 determined once answer (print_unit source) files rose names outcome ideal forms calm (e, inr h) d = inr h

@@ -1,10 +1,13 @@
 pub mod Clauses
 pub mod Endings
 pub mod Framed
+pub mod Heads
 pub mod Named
 pub mod Parts
 pub mod Pieces
 pub mod Plans
 pub mod Powers
 pub mod Shown
+pub mod SomeEnding
 pub mod Unchecked
+pub mod TextLaws

@@ -16,7 +16,8 @@ use Rattle.balance_cli.specs.Runs.{IsRun, IsTried}
 use Rattle.balance_cli.specs.Plans.{Plan, load, judge, print_unit, read, run_unit, try_unit, Files, Ends, Follows}
 use Rattle.balance_cli.specs.Printed.{IsPrinted}
 use Rattle.balance_cli.specs.Sources.{Accepts}
-use Rattle.balance_cli.specs.Stages.{IsLoad, IsJudged, IsRead, stop_of}
+use Rattle.balance_cli.specs.Stages.{IsLoad, IsJudged, IsTaken, IsRead, stop_of}
+use Rattle.balance_cli.specs.declared.judging.Wanted.{Wanted}
 use Rattle.balance_cli.specs.declared.stages.FileWord.{FileWord}
 use Rattle.balance_cli.specs.declared.stages.Output.{Output}
 use Rattle.balance_cli.specs.declared.stages.Stop.{Stop}
@@ -24,7 +25,7 @@ use Rattle.balance_cli.specs.declared.stages.Stop.TheVariants.{ReadFault, TooLon
 
 -- an accepted source is of the one-loop form
 pub form_of_accepted : (text : List ℕ) (u : PlainUnit) → Accepts text u → IsOneLoop u
-form_of_accepted text u is = record { parts = is.parts; allowed = is.allowed; same = is.unit }
+form_of_accepted text u is = is.one_loop
 
 -- a count that rose after an earlier value rose since then
 rose_over : (first middle last : ℕ) → first ≤ middle → Rose middle last → Rose first last
@@ -37,9 +38,9 @@ ends_over (load word name limit next) files names outcome f (inl h) = inl h
 ends_over (load word name limit next) files names outcome f (inr (inl h)) = inr (inl (h.0, h.1, f h.2))
 ends_over (load word name limit next) files names outcome f (inr (inr (inl h))) = inr (inr (inl h))
 ends_over (load word name limit next) files names outcome f (inr (inr (inr h))) = inr (inr (inr (h.0, h.1, h.2, h.3, h.4, ends_over (next h.0) files h.1 outcome f h.5)))
-ends_over (judge text next) files names outcome f (inl h) = inl h
-ends_over (judge text next) files names outcome f (inr (inl h)) = inr (inl h)
-ends_over (judge text next) files names outcome f (inr (inr h)) = inr (inr (h.0, h.1, ends_over (next h.0) files names outcome f h.2))
+ends_over (judge kind text next) files names outcome f (inl h) = inl h
+ends_over (judge kind text next) files names outcome f (inr (inl h)) = inr (inl h)
+ends_over (judge kind text next) files names outcome f (inr (inr h)) = inr (inr (h.0, h.1, ends_over (next h.0) files names outcome f h.2))
 ends_over (print_unit source) files names outcome f h = h
 ends_over (read head text next) files names outcome f (inl h) = inl h
 ends_over (read head text next) files names outcome f (inr (inl h)) = inr (inl h)
@@ -88,37 +89,40 @@ follows_still : (plan : Plan) (now : Told) (outcome : Result Output Stop) → ((
 follows_still plan now outcome ends = record { files = refl; later = omega arith; names = []; asked = asked_nothing now.asked; ends = ends (Rose now.faults now.faults) }
 
 -- a text that is read through a reference
-pub judged_at : (text seen : List ℕ) (result : Result TheUnit Stop) → seen ≡ text → IsJudged seen result → IsJudged text result
-judged_at text seen result same one = subst (λ (t : List ℕ). IsJudged t result) same one
+pub judged_at : (kind : Wanted) (text seen : List ℕ) (result : Result TheUnit Stop) → seen ≡ text → IsJudged kind seen result → IsJudged kind text result
+judged_at kind text seen result same one = subst (λ (t : List ℕ). IsJudged kind t result) same one
 
--- what a refusal of the parser says
-pub judged_refusal : (text : List ℕ) (why : Refusal) → (why ≡ refusal.Unbuilt → (u : PlainUnit) → Accepts text u → ⊥) → (why ≡ refusal.Unbuilt) ⊎ (why ≡ refusal.OutOfMemory) → IsJudged text (Err (stop_of why))
-judged_refusal text why none (inl is) = subst (λ (w : Refusal). IsJudged text (Err (stop_of w))) (sym is) (none is)
-judged_refusal text why none (inr is) = subst (λ (w : Refusal). IsJudged text (Err (stop_of w))) (sym is) tt
+-- a refusal as the cause that it is
+pub judged_refusal : (kind : Wanted) (text : List ℕ) (why : Refusal) → IsTaken kind text (Err why) → IsJudged kind text (Err (stop_of why))
+judged_refusal kind text refusal.OutOfMemory is = tt
+judged_refusal kind text refusal.Unbuilt is = is
+judged_refusal kind text (refusal.Lexical byte) is = is
+judged_refusal kind text (refusal.Syntax byte) is = is
+judged_refusal kind text _ is = is
 
 -- a source text that is accepted, and the rest of the plan
-pub follows_judged : (text seen : List ℕ) (next : PlainUnit → Plan) (before now : Told) (u : TheUnit) (outcome : Result Output Stop) → seen ≡ text → IsJudged seen (Ok u) → Follows (next (unit u)) before now outcome → Follows (judge text next) before now outcome
+pub follows_judged : (kind : Wanted) (text seen : List ℕ) (next : PlainUnit → Plan) (before now : Told) (u : TheUnit) (outcome : Result Output Stop) → seen ≡ text → IsJudged kind seen (Ok u) → Follows (next (unit u)) before now outcome → Follows (judge kind text next) before now outcome
 unfolding Ends
-follows_judged text seen next before now u outcome same one rest = record {
+follows_judged kind text seen next before now u outcome same one rest = record {
   files = rest.files;
   later = rest.later;
   names = rest.names;
   asked = rest.asked;
-  ends = inr (inr (unit u, judged_at text seen (Ok u) same one, rest.ends));
+  ends = inr (inr (unit u, judged_at kind text seen (Ok u) same one, rest.ends));
 }
 
-ends_refused : (text : List ℕ) (next : PlainUnit → Plan) (files : Files) (cause : Stop) → IsJudged text (Err cause) → (rose : Type 0) → Ends (judge text next) files rose [] (Err cause)
+ends_refused : (kind : Wanted) (text : List ℕ) (next : PlainUnit → Plan) (files : Files) (cause : Stop) → IsJudged kind text (Err cause) → (rose : Type 0) → Ends (judge kind text next) files rose [] (Err cause)
 unfolding Ends
-ends_refused text next files (SourceRefused refusal) one rose = inr (inl (refusal, one, refl, refl))
-ends_refused text next files NoMemory one rose = inl (refl, refl)
-ends_refused text next files (ReadFault w) one rose = absurd one
-ends_refused text next files (TooLong w) one rose = absurd one
-ends_refused text next files (DataRefused why) one rose = absurd one
+ends_refused kind text next files (SourceRefused refusal) one rose = inr (inl (refusal, one, refl, refl))
+ends_refused kind text next files NoMemory one rose = inl (refl, refl)
+ends_refused kind text next files (ReadFault w) one rose = absurd one
+ends_refused kind text next files (TooLong w) one rose = absurd one
+ends_refused kind text next files (DataRefused why) one rose = absurd one
 
 -- a source text that is refused
-pub follows_refused : (text seen : List ℕ) (next : PlainUnit → Plan) (now : Told) (cause : Stop) → seen ≡ text → IsJudged seen (Err cause) → Follows (judge text next) now now (Err cause)
-follows_refused text seen next now cause same one =
-    follows_still (judge text next) now (Err cause) (ends_refused text next now.files cause (judged_at text seen (Err cause) same one))
+pub follows_refused : (kind : Wanted) (text seen : List ℕ) (next : PlainUnit → Plan) (now : Told) (cause : Stop) → seen ≡ text → IsJudged kind seen (Err cause) → Follows (judge kind text next) now now (Err cause)
+follows_refused kind text seen next now cause same one =
+    follows_still (judge kind text next) now (Err cause) (ends_refused kind text next now.files cause (judged_at kind text seen (Err cause) same one))
 
 ends_printed : (source : PlainUnit) (files : Files) (outcome : Result Output Stop) → MatchResult outcome (IsPrinted source) (λ cause. cause ≡ NoMemory) → (rose : Type 0) → Ends (print_unit source) files rose [] outcome
 unfolding Ends

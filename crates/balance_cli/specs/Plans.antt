@@ -13,6 +13,8 @@ use Rattle.balance_cli.specs.Orders.{Order, print, run_file, attempt}
 use Rattle.balance_cli.specs.Printed.{IsPrinted}
 use Rattle.balance_cli.specs.Runs.{IsRun, IsTried}
 use Rattle.balance_cli.specs.Sources.{Accepts, Refuses}
+use Rattle.balance_cli.specs.declared.judging.Wanted.{Wanted}
+use Rattle.balance_cli.specs.declared.judging.Wanted.TheVariants as wanted
 use Rattle.balance_cli.specs.declared.stages.FileWord.{FileWord}
 use Rattle.balance_cli.specs.declared.stages.FileWord.TheVariants.{Source, File, Data}
 use Rattle.balance_cli.specs.declared.stages.Output.{Output}
@@ -22,8 +24,8 @@ use Rattle.balance_cli.specs.declared.stages.Stop.TheVariants.{ReadFault, TooLon
 pub data Plan : Type 0 where
   -- load a file, and go on with its bytes
   load : (word : FileWord) (name : List ℕ) (limit : ℕ) (next : List ℕ → Plan) → Plan
-  -- judge a source text, and go on with its unit
-  judge : (text : List ℕ) (next : PlainUnit → Plan) → Plan
+  -- judge a text, of which a source or any text is wanted, and go on with its unit
+  judge : (kind : Wanted) (text : List ℕ) (next : PlainUnit → Plan) → Plan
   -- write a text that is printed for this source, and end so
   print_unit : (source : PlainUnit) → Plan
   -- read a data text by the head of a unit, and go on with its inputs
@@ -34,11 +36,11 @@ pub data Plan : Type 0 where
   try_unit : (source : PlainUnit) (inputs : PlainInputs) → Plan
 
 abbrev pub plan_of : Order → Plan
-plan_of (print source) = load Source source 262144 (λ text. judge text (λ unit. print_unit unit))
+plan_of (print source) = load Source source 262144 (λ text. judge wanted.Source text (λ unit. print_unit unit))
 plan_of (run_file file input) =
-    load File file 16777216 (λ text. judge text (λ unit. load Data input 67108864 (λ bytes. read unit bytes (λ inputs. run_unit unit inputs))))
+    load File file 16777216 (λ text. judge wanted.AnyText text (λ unit. load Data input 67108864 (λ bytes. read unit bytes (λ inputs. run_unit unit inputs))))
 plan_of (attempt source input) =
-    load Source source 262144 (λ text. judge text (λ unit. load Data input 67108864 (λ bytes. read unit bytes (λ inputs. try_unit unit inputs))))
+    load Source source 262144 (λ text. judge wanted.Source text (λ unit. load Data input 67108864 (λ bytes. read unit bytes (λ inputs. try_unit unit inputs))))
 
 -- ---- files, where they are told
 
@@ -69,9 +71,9 @@ Ends (load word name limit next) files rose names outcome =
     ⊎ (((names ≡ name ∷ []) × (outcome ≡ Err (ReadFault word)) × rose)
     ⊎ (((names ≡ name ∷ []) × (outcome ≡ Err (TooLong word)) × IsTooLong files name limit)
     ⊎ ((bytes : List ℕ) × (rest : List (List ℕ)) × (length bytes ≤ limit) × IsFile files name bytes × (names ≡ name ∷ rest) × Ends (next bytes) files rose rest outcome)))
-Ends (judge text next) files rose names outcome =
+Ends (judge kind text next) files rose names outcome =
     ((names ≡ []) × (outcome ≡ Err NoMemory))
-    ⊎ (((refusal : Refusal) × Refuses text refusal × (names ≡ []) × (outcome ≡ Err (SourceRefused refusal)))
+    ⊎ (((refusal : Refusal) × Refuses kind text refusal × (names ≡ []) × (outcome ≡ Err (SourceRefused refusal)))
     ⊎ ((unit : PlainUnit) × Accepts text unit × Ends (next unit) files rose names outcome))
 Ends (print_unit source) files rose names outcome =
     (names ≡ []) × (((output : Output) × IsPrinted source output × (outcome ≡ Ok output)) ⊎ (outcome ≡ Err NoMemory))
@@ -99,8 +101,8 @@ Defined (load word name limit next) files outcome =
     (IsAbsent files name × (outcome ≡ Err (ReadFault word)))
     ⊎ ((IsTooLong files name limit × (outcome ≡ Err (TooLong word)))
     ⊎ ((bytes : List ℕ) × (length bytes ≤ limit) × IsFile files name bytes × Defined (next bytes) files outcome))
-Defined (judge text next) files outcome =
-    ((refusal : Refusal) × Refuses text refusal × (outcome ≡ Err (SourceRefused refusal)))
+Defined (judge kind text next) files outcome =
+    ((refusal : Refusal) × Refuses kind text refusal × (outcome ≡ Err (SourceRefused refusal)))
     ⊎ ((unit : PlainUnit) × Accepts text unit × Defined (next unit) files outcome)
 Defined (print_unit source) files outcome = (output : Output) × IsPrinted source output × (outcome ≡ Ok output)
 Defined (read head text next) files outcome =
@@ -109,11 +111,20 @@ Defined (read head text next) files outcome =
 Defined (run_unit source inputs) files outcome = (output : Output) × IsRun source inputs output × (outcome ≡ Ok output)
 Defined (try_unit source inputs) files outcome = (output : Output) × IsTried source inputs output × (outcome ≡ Ok output)
 
+-- every stage passes: each file is there and within its limit, and each text is accepted or means inputs
+unfoldable pub Passes : Plan → Files → Type 0
+Passes (load word name limit next) files = (bytes : List ℕ) × (length bytes ≤ limit) × IsFile files name bytes × Passes (next bytes) files
+Passes (judge kind text next) files = (unit : PlainUnit) × Accepts text unit × Passes (next unit) files
+Passes (print_unit source) files = Unit {0}
+Passes (read head text next) files = (inputs : PlainInputs) × IsMeant head text inputs × Passes (next inputs) files
+Passes (run_unit source inputs) files = Unit {0}
+Passes (try_unit source inputs) files = Unit {0}
+
 -- the stages before this load pass
 unfoldable pub Reaches : Plan → Files → FileWord → Type 0
 Reaches (load word name limit next) files at =
     (at ≡ word) ⊎ ((bytes : List ℕ) × (length bytes ≤ limit) × IsFile files name bytes × Reaches (next bytes) files at)
-Reaches (judge text next) files at = (unit : PlainUnit) × Accepts text unit × Reaches (next unit) files at
+Reaches (judge kind text next) files at = (unit : PlainUnit) × Accepts text unit × Reaches (next unit) files at
 Reaches (print_unit source) files at = ⊥
 Reaches (read head text next) files at = (inputs : PlainInputs) × IsMeant head text inputs × Reaches (next inputs) files at
 Reaches (run_unit source inputs) files at = ⊥
@@ -123,7 +134,7 @@ Reaches (try_unit source inputs) files at = ⊥
 abbrev pub AsksOnly : Plan → List (List ℕ) → Type 0
 AsksOnly (load word name limit next) [] = ⊥
 AsksOnly (load word name limit next) (first ∷ names) = (name ≡ first) × ((bytes : List ℕ) → AsksOnly (next bytes) names)
-AsksOnly (judge text next) names = (unit : PlainUnit) → AsksOnly (next unit) names
+AsksOnly (judge kind text next) names = (unit : PlainUnit) → AsksOnly (next unit) names
 AsksOnly (print_unit source) names = Unit {0}
 AsksOnly (read head text next) names = (inputs : PlainInputs) → AsksOnly (next inputs) names
 AsksOnly (run_unit source inputs) names = Unit {0}

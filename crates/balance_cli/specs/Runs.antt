@@ -7,10 +7,11 @@ use Rattle.c_tree.specs.declared.frame.Frame.{Frame}
 use Rattle.c_tree.specs.declared.run.Ended.{Ended}
 use Rattle.acceptance.specs.Printed.{IsAcceptedPrinted, StoresNothingBefore}
 use Rattle.data_file.specs.Texts.{output_text}
-use Rattle.guard_laws.specs.Guards.{Guards, HasTotals, MakesSameAccesses}
+use Rattle.guard_laws.specs.Guards.{Guards, HasTotals, MakesSameAccesses, NamesTheArray}
 use Rattle.instrumentation.specs.Guarded.{guarded}
 use Rattle.interp.specs.Finished.{verdict_in, IsEnded}
 use Rattle.balance_cli.specs.Frames.{frame_in}
+use Rattle.balance_cli.specs.Printed.{HasHeadOf}
 use Rattle.balance_cli.specs.declared.stages.Finish.{Finish}
 use Rattle.balance_cli.specs.declared.stages.Finish.TheVariants.{Done, Reported, Outside}
 use Rattle.balance_cli.specs.declared.stages.Output.{Output}
@@ -35,13 +36,15 @@ pub record IsRun (source : PlainUnit) (inputs : PlainInputs) (output : Output) :
   pub text : output.text ≡ output_text (frame_in source) ended
   pub finish : output.finish ≡ finish_of (run source inputs None).verdict
 
--- the output of the run of a source's instrumented unit, which is accepted and guards the source
+-- The output of the run of a source's instrumented unit, which is one that could be printed.
 pub record IsTried (source : PlainUnit) (inputs : PlainInputs) (output : Output) : Type 0 where
   pub unit : PlainUnit
   pub made : unit ≡ guarded source
+  pub head : HasHeadOf source unit
   pub accepted : IsAcceptedPrinted unit
   pub stores : StoresNothingBefore unit
   pub guards : Guards source unit
+  pub names : NamesTheArray source unit
   pub accesses : MakesSameAccesses source unit
   pub totals : HasTotals source unit
   pub ended : Ended

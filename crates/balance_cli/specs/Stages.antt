@@ -16,6 +16,7 @@ use Rattle.balance_cli.specs.Frames.{frame_in}
 use Rattle.balance_cli.specs.Inputs.{IsMeant, IsDataRefused, data_refusal_text}
 use Rattle.balance_cli.specs.Plans.{IsFile, IsTooLong}
 use Rattle.balance_cli.specs.Sources.{Accepts, Refuses}
+use Rattle.balance_cli.specs.declared.judging.Wanted.{Wanted}
 use Rattle.balance_cli.specs.declared.stages.FileWord.{FileWord}
 use Rattle.balance_cli.specs.declared.stages.Stop.{Stop}
 use Rattle.balance_cli.specs.declared.stages.Stop.TheVariants.{ReadFault, TooLong, SourceRefused, DataRefused, NoMemory}
@@ -40,14 +41,20 @@ abbrev pub stop_of : Refusal → Stop
 stop_of refusal.OutOfMemory = NoMemory
 stop_of why = SourceRefused why
 
--- one source text
-abbrev pub IsJudged : List ℕ → Result TheUnit Stop → Type 0
-IsJudged text (Ok u) = Accepts text (unit u)
-IsJudged text (Err (SourceRefused why)) = Refuses text why
-IsJudged text (Err (ReadFault w)) = ⊥
-IsJudged text (Err (TooLong w)) = ⊥
-IsJudged text (Err (DataRefused why)) = ⊥
-IsJudged text (Err NoMemory) = Unit {0}
+-- one text, of which a source or any text is wanted
+abbrev pub IsJudged : Wanted → List ℕ → Result TheUnit Stop → Type 0
+IsJudged kind text (Ok u) = Accepts text (unit u)
+IsJudged kind text (Err (SourceRefused why)) = Refuses kind text why
+IsJudged kind text (Err (ReadFault w)) = ⊥
+IsJudged kind text (Err (TooLong w)) = ⊥
+IsJudged kind text (Err (DataRefused why)) = ⊥
+IsJudged kind text (Err NoMemory) = Unit {0}
+
+-- the same with the refusal as it is
+abbrev pub IsTaken : Wanted → List ℕ → Result TheUnit Refusal → Type 0
+IsTaken kind text (Ok u) = Accepts text (unit u)
+IsTaken kind text (Err refusal.OutOfMemory) = Unit {0}
+IsTaken kind text (Err why) = Refuses kind text why
 
 -- the cause that a refusal of a data text is, or that memory is wanting
 abbrev pub IsDataStop : Frame → DataRefusal → Stop → Type 0

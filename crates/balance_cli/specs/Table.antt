@@ -7,8 +7,8 @@ use Rattle.balance_cli.specs.Calls.{Tries, OnlyTells}
 use Rattle.balance_cli.specs.Lines.{line_of, usage_line, write_line, memory_line}
 use Rattle.balance_cli.specs.Met.{Met, files_before}
 use Rattle.balance_cli.specs.Orders.{Order, files_of}
-use Rattle.balance_cli.specs.Plans.{plan_of, Defined, Reaches}
-use Rattle.balance_cli.specs.Statuses.{ideal_status}
+use Rattle.balance_cli.specs.Plans.{plan_of, Defined, Passes, Reaches}
+use Rattle.balance_cli.specs.Statuses.{finish_status, ideal_status}
 use Rattle.balance_cli.specs.declared.stages.FileWord.{FileWord}
 use Rattle.balance_cli.specs.declared.stages.Finish.{Finish}
 use Rattle.balance_cli.specs.declared.stages.Finish.TheVariants as finish
@@ -82,16 +82,42 @@ pub record AsksInOrder (order : Option Order) (met : Met) : Type 0 where
   pub prefix : file_words order ≡ names ++ others
   pub asked : met.shelf.asked ≡ option_map (λ asked. asked ++ names) met.shelf_before.asked
 
+-- no count of faults rose but maybe that of the error stream
+pub record IsQuiet (met : Met) : Type 0 where
+  pub shelf : Rose met.shelf_before.faults met.shelf.faults → ⊥
+  pub out : Rose met.out_before.faults met.out.faults → ⊥
+
+-- the status of how it ends, with the defined text whole on the output
+pub record IsFulfilled (order : Order) (met : Met) (status : Status) : Type 0 where
+  pub how : Finish
+  pub status_is : status ≡ finish_status how
+  pub done : IsDone order how met
+
+-- Where the files are told, there and within their limits, the texts are accepted and no count rises, the defined text
+-- stands whole on the output, unless memory is wanting.
+abbrev pub IsComplete : Option Order → Met → Status → Type 0
+IsComplete None met status = Unit {0}
+IsComplete (Some order) met status =
+    (files : List (List ℕ × List ℕ)) → files_before met ≡ Some files → Passes (plan_of order) (Some files) → IsQuiet met
+    → IsFulfilled order met status ⊎ (status ≡ NoMemory)
+
 -- Which counts must not rise for this outcome. An absent file is a fault whatever else fails, and a text that is refused
 -- isn't written.
 abbrev pub IsCalm : Result Output Stop → Met → Type 0
-IsCalm (Ok output) met = (Rose met.shelf_before.faults met.shelf.faults → ⊥) × (Rose met.out_before.faults met.out.faults → ⊥)
+IsCalm (Ok output) met = IsQuiet met
 IsCalm (Err (stop.ReadFault word)) met = Unit {0}
 IsCalm (Err cause) met = Rose met.shelf_before.faults met.shelf.faults → ⊥
 
--- Over files that are told a call ends as defined, unless a count rises or memory is wanting.
+-- Over these files an ending is defined, and a call ends as any that is, unless a count rises or memory is wanting.
+pub record HasEnding (order : Order) (files : List (List ℕ × List ℕ)) (met : Met) (status : Status) : Type 0 where
+  pub ideal : Result Output Stop
+  pub defined : Defined (plan_of order) (Some files) ideal
+  pub ends :
+      (outcome : Result Output Stop) → Defined (plan_of order) (Some files) outcome → IsCalm outcome met
+      → (status ≡ ideal_status outcome) ⊎ (status ≡ NoMemory)
+
+-- over files that are told
 abbrev pub EndsAsDefined : Option Order → Met → Status → Type 0
 EndsAsDefined None met status = Unit {0}
 EndsAsDefined (Some order) met status =
-    (files : List (List ℕ × List ℕ)) (ideal : Result Output Stop) → files_before met ≡ Some files → Defined (plan_of order) (Some files) ideal
-    → IsCalm ideal met → (status ≡ ideal_status ideal) ⊎ (status ≡ NoMemory)
+    (files : List (List ℕ × List ℕ)) → files_before met ≡ Some files → HasEnding order files met status

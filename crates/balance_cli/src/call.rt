@@ -7,15 +7,19 @@ ghost use Rattle.balance_cli.specs.Lines.{memory_line};
 ghost use Rattle.balance_cli.specs.Met.{met};
 ghost use Rattle.balance_cli.specs.Orders.{order_of};
 ghost use Rattle.balance_cli.specs.Statuses.{status_of as status_at, finish_status};
-ghost use Rattle.balance_cli.specs.Table.{Cause, AsksInOrder, EndsAsDefined};
+ghost use Rattle.balance_cli.specs.Table.{Cause, AsksInOrder, IsComplete, EndsAsDefined};
 
 use crate::lines::{CANNOT_WRITE, NO_MEMORY, USAGE, line, try_line};
 use crate::stages::{Finish, Output, Stop, prepared};
 use crate::status::Status;
 use crate::words::{Command, command_of};
-use c_parser::one_unit;
-use data_file::one_answer;
+use acceptance_laws::one_loop_is_accepted;
+use c_lexer::one_reading;
+use c_parser::{one_unit, unit_or_none};
+use data_file::{one_answer, some_answer};
 use edge::{Shelf, Sink, write_all};
+use guard_laws::one_loop_guards;
+use one_loop::one_loop_or_not;
 use std::alloc::Global;
 
 // The status of a cause.
@@ -114,10 +118,19 @@ pub fn balance<F: Shelf, O: Sink, E: Sink>(
     ensures usage_only { result ≡ Status.Usage → order_of (map string_bytes words.now) ≡ None }
     ensures usage { order_of (map string_bytes words.now) ≡ None → (result ≡ Status.Usage) ⊎ (result ≡ Status.NoMemory) }
     ensures asked { AsksInOrder (order_of (map string_bytes words.now)) (met F.told shelf.old shelf.new O.held out.old out.new E.held err.old err.new) }
-    ensures complete { EndsAsDefined (order_of (map string_bytes words.now)) (met F.told shelf.old shelf.new O.held out.old out.new E.held err.old err.new) result }
+    // Where files are told, there and within their limits, the texts are accepted and no count rises, the text stands whole.
+    ensures complete { IsComplete (order_of (map string_bytes words.now)) (met F.told shelf.old shelf.new O.held out.old out.new E.held err.old err.new) result }
+    // Whatever files are told, an ending is defined, and the call ends by it, unless a count rises or memory is wanting.
+    ensures determined { EndsAsDefined (order_of (map string_bytes words.now)) (met F.told shelf.old shelf.new O.held out.old out.new E.held err.old err.new) result }
 {
+    one_reading();
     one_unit();
+    unit_or_none();
+    one_loop_or_not();
     one_answer();
+    some_answer();
+    one_loop_guards();
+    one_loop_is_accepted();
     answered(alloc, words, shelf, out, err)
 }
 

@@ -10,6 +10,7 @@ mod call;
 mod data_refusals;
 mod frames;
 mod inputs;
+mod judging;
 mod layout;
 mod lines;
 mod refusals;

@@ -11,10 +11,10 @@ ghost use Rattle.balance_cli.specs.Stages.{IsLoad, IsJudged};
 ghost use Rattle.balance_cli.specs.declared.stages.Stop.TheVariants.{NoMemory};
 
 use crate::inputs::read;
+use crate::judging::{Wanted, taken};
 use crate::layout::layout_of;
 use crate::runs::{ran, tried};
 use crate::words::Command;
-use c_parser::parse;
 use c_tree::{OutOfMemory, Refusal, Unit};
 use edge::{ByteList, Loaded, Shelf, ShelfFault};
 use rewrite::instrument_one;
@@ -104,11 +104,11 @@ fn loaded<F: Shelf>(
     }
 }
 
-fn judged(alloc: Global, text: &[u8]) -> Result<Unit, Stop>
+fn judged(alloc: Global, wanted: Wanted, text: &[u8]) -> Result<Unit, Stop>
     requires { length text.now ≤ 16777216 }
-    ensures { IsJudged text.now result }
+    ensures { IsJudged wanted text.now result }
 {
-    match parse(alloc, text) {
+    match taken(alloc, wanted, text) {
         Ok(unit) => Ok(unit),
         Err(refusal) => Err(Stop::from(refusal)),
     }
@@ -130,7 +130,7 @@ fn print<F: Shelf>(alloc: Global, source: &str, shelf: &mut F) -> Result<Output,
     ensures { Follows (plan_of (print_order source.now)) (F.told shelf.old) (F.told shelf.new) result }
 {
     let text = loaded(alloc, FileWord::Source, source, SOURCE_LIMIT, shelf)?;
-    let unit = judged(alloc, text.as_slice())?;
+    let unit = judged(alloc, Wanted::Source, text.as_slice())?;
     printed(alloc, &unit)
 }
 
@@ -138,7 +138,7 @@ fn run_file<F: Shelf>(alloc: Global, file: &str, input: &str, shelf: &mut F) -> 
     ensures { Follows (plan_of (run_order file.now input.now)) (F.told shelf.old) (F.told shelf.new) result }
 {
     let text = loaded(alloc, FileWord::File, file, FILE_LIMIT, shelf)?;
-    let unit = judged(alloc, text.as_slice())?;
+    let unit = judged(alloc, Wanted::AnyText, text.as_slice())?;
     let bytes = loaded(alloc, FileWord::Data, input, DATA_LIMIT, shelf)?;
     let inputs = read(alloc, &unit, bytes.as_slice())?;
     ran(alloc, &unit, &inputs)
@@ -153,7 +153,7 @@ fn attempt<F: Shelf>(
     ensures { Follows (plan_of (attempt_order source.now input.now)) (F.told shelf.old) (F.told shelf.new) result }
 {
     let whole = loaded(alloc, FileWord::Source, source, SOURCE_LIMIT, shelf)?;
-    let unit = judged(alloc, whole.as_slice())?;
+    let unit = judged(alloc, Wanted::Source, whole.as_slice())?;
     let bytes = loaded(alloc, FileWord::Data, input, DATA_LIMIT, shelf)?;
     let inputs = read(alloc, &unit, bytes.as_slice())?;
     tried(alloc, &unit, &inputs)

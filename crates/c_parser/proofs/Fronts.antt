@@ -1,90 +1,17 @@
--- Fronts of a text: the longest run of bytes that pass a test, and a front that is stripped.
-use Rattle.std.proofs.Common.{◌≡◌, ℕ, one-add, List, [], ◌∷◌, ◌++◌, length, take, drop, Bool, true, false, cond, ◌&&◌, Option, Some, None, option_and_then, refl, sym, ap, ◌∙◌, arith, ◌⊎◌, inl, inr}
-use Rattle.std.proofs.Math.Seq.{take-append_seam, drop-append_seam}
-use Rattle.std.proofs.lemmas.List.{take-append-drop}
-use Rattle.std.proofs.lemmas.Option.{cond_some}
-use Rattle.std.proofs.lemmas.Slice.Eq.{bytes_eq-Decides}
-use Rattle.std.specs.List.{AllByRecursion, prefix_len, list_all}
-use Rattle.std.specs.Str.{bytes_eq}
-use Rattle.c_parser.specs.OneLoopText.{begins_with}
-use Rattle.c_parser.specs.Reading.{run, behind, strip}
+-- A word against a front and what follows it.
+use Rattle.std.proofs.Common.{◌≡◌, ℕ, suc, List, [], ◌∷◌, ◌++◌, length, take, drop, Bool, true, false, ◌&&◌, nat_eq, bytes_eq, refl, sym, ap, ◌∙◌}
 
--- ---- steps taken apart
+and_again : (a b c : Bool) → (a && (b && c)) ≡ ((a && b) && c)
+and_again true b c = refl
+and_again false b c = refl
 
-pub bind_is : {A B : Type 0} (f : A → Option B) (o : Option A) (y : B) → option_and_then f o ≡ Some y → (x : A) × (o ≡ Some x) × (f x ≡ Some y)
-bind_is f None y e = absurd (let no : ⊥ = cc in no)
-bind_is f (Some x) y e = (x, refl, e)
+pub in_two : (f w d : List ℕ) → bytes_eq w (f ++ d) ≡ (bytes_eq (take (length f) w) f && bytes_eq (drop (length f) w) d)
+in_two [] w d = refl
+in_two (x ∷ f) [] d = refl
+in_two (x ∷ f) (y ∷ w) d = ap (λ (b : Bool). nat_eq y x && b) (in_two f w d) ∙ and_again (nat_eq y x) (bytes_eq (take (length f) w) f) (bytes_eq (drop (length f) w) d)
 
-pub chosen : {X : Type 0} (b : Bool) (x y z : X) → cond b x y ≡ z → ((b ≡ true) × (x ≡ z)) ⊎ ((b ≡ false) × (y ≡ z))
-chosen true x y z e = inl (refl, e)
-chosen false x y z e = inr (refl, e)
+pub front_is : (f w d : List ℕ) → bytes_eq (take (length f) w) f ≡ true → bytes_eq (drop (length f) w) d ≡ bytes_eq w (f ++ d)
+front_is f w d h = ap (λ (b : Bool). b && bytes_eq (drop (length f) w) d) (sym h) ∙ sym (in_two f w d)
 
-pub both : (a b : Bool) → (a && b) ≡ true → (a ≡ true) × (b ≡ true)
-both true true h = (refl, refl)
-both true false h = absurd (let no : ⊥ = cc in no)
-both false b h = absurd (let no : ⊥ = cc in no)
-
--- ---- runs
-
--- each byte passes the test
-abbrev pub Passes : (ℕ → Bool) → List ℕ → Type 0
-Passes test bytes = AllByRecursion (λ b. test b ≡ true) bytes
-
-pub Passes-append : (test : ℕ → Bool) (front rest : List ℕ) → Passes test front → Passes test rest → Passes test (front ++ rest)
-Passes-append test [] rest p q = q
-Passes-append test (b ∷ front) rest p q = (p.0, Passes-append test front rest p.1 q)
-
-pub list_all-from_Passes : (test : ℕ → Bool) (bytes : List ℕ) → Passes test bytes → list_all test bytes ≡ true
-list_all-from_Passes test [] p = refl
-list_all-from_Passes test (b ∷ bs) p = rw p.0 (list_all-from_Passes test bs p.1)
-
-pub Passes-from_list_all : (test : ℕ → Bool) (bytes : List ℕ) → list_all test bytes ≡ true → Passes test bytes
-Passes-from_list_all test [] h = tt
-Passes-from_list_all test (b ∷ bs) h = (grind arith, Passes-from_list_all test bs (grind arith))
-
-pub run-behind : (test : ℕ → Bool) (text : List ℕ) → text ≡ run test text ++ behind test text
-run-behind test text = sym (take-append-drop (prefix_len test text) text)
-
-pub run_passes : (test : ℕ → Bool) (text : List ℕ) → Passes test (run test text)
-run_passes test [] = tt
-run_passes test (b ∷ bs) = first (test b) refl (run_passes test bs) where
-  first : (v : Bool) → test b ≡ v → Passes test (run test bs) → Passes test (run test (b ∷ bs))
-  first true e others = rw (e, one-add) (e, others)
-  first false e others = rw e tt
-
-pub run-cons : (test : ℕ → Bool) (b : ℕ) (bs : List ℕ) → test b ≡ true → run test (b ∷ bs) ≡ b ∷ run test bs
-run-cons test b bs e = rw (e, one-add) refl
-
-pub behind_stops : (test : ℕ → Bool) (text : List ℕ) → begins_with test (behind test text) ≡ false
-behind_stops test [] = refl
-behind_stops test (b ∷ bs) = first (test b) refl (behind_stops test bs) where
-  first : (v : Bool) → test b ≡ v → begins_with test (behind test bs) ≡ false → begins_with test (behind test (b ∷ bs)) ≡ false
-  first true e others = rw (e, one-add) others
-  first false e others = rw e e
-
-pub prefix_len-front : (test : ℕ → Bool) (front rest : List ℕ) → Passes test front → begins_with test rest ≡ false → prefix_len test (front ++ rest) ≡ length front
-prefix_len-front test [] [] p h = refl
-prefix_len-front test [] (b ∷ rest) p h = rw h refl
-prefix_len-front test (b ∷ front) rest p h = rw p.0 (omega (arith, prefix_len-front test front rest p.1 h))
-
-pub run-front : (test : ℕ → Bool) (front rest : List ℕ) → Passes test front → begins_with test rest ≡ false → run test (front ++ rest) ≡ front
-run-front test front rest p h = rw (prefix_len-front test front rest p h) (take-append_seam front rest)
-
-pub behind-front : (test : ℕ → Bool) (front rest : List ℕ) → Passes test front → begins_with test rest ≡ false → behind test (front ++ rest) ≡ rest
-behind-front test front rest p h = rw (prefix_len-front test front rest p h) (drop-append_seam front rest)
-
--- ---- what is stripped
-
-pub strip_is : (front text rest : List ℕ) → strip front text ≡ Some rest → text ≡ front ++ rest
-unfolding strip
-strip_is front text rest h =
-    let p = cond_some (bytes_eq (take (length front) text) front) (drop (length front) text) rest h in
-    let same : take (length front) text ≡ front = (bytes_eq-Decides (take (length front) text) front).0 p.0 in
-    sym (take-append-drop (length front) text) ∙ ap (λ z. z ++ drop (length front) text) same ∙ ap (λ z. front ++ z) p.1
-
-pub strip-front : (front rest : List ℕ) → strip front (front ++ rest) ≡ Some rest
-unfolding strip
-strip-front front rest =
-    let same = take-append_seam front rest in
-    let equal : bytes_eq (take (length front) (front ++ rest)) front ≡ true = (bytes_eq-Decides _ _).1 same in
-    rw equal (ap (λ z. Some z) (drop-append_seam front rest))
+pub front_differs : (f w d : List ℕ) → bytes_eq (take (length f) w) f ≡ false → false ≡ bytes_eq w (f ++ d)
+front_differs f w d h = ap (λ (b : Bool). b && bytes_eq (drop (length f) w) d) (sym h) ∙ sym (in_two f w d)

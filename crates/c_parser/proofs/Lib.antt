@@ -1,10 +1,8 @@
+pub mod WantedLemmas
+pub mod Lists
+pub mod Extents
+pub mod Pairs
 pub mod Fronts
-pub mod Numbers
-pub mod Tokens
-pub mod Marks
-pub mod Lines
-pub mod Ranges
-pub mod Sound
-pub mod Complete
-pub mod Whole
-pub mod More
+pub mod StmtLists
+pub mod Tables
+pub mod Printed

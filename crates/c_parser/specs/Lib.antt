@@ -1,4 +1,3 @@
-pub mod OneLoopText
-pub mod Outcome
-pub mod Reading
 pub mod Seen
+pub mod Started
+pub mod Wanted

@@ -1,7 +1,8 @@
 -- Names: which words are names at all, and which names a source may not declare.
-use Rattle.std.specs.Prelude.{ℕ, Bool, false, ◌&&◌, ◌||◌, nat_le, nat_eq, bytes_eq, List, [], ◌∷◌, codes}
+use Rattle.std.specs.Prelude.{ℕ, Bool, false, ◌&&◌, ◌||◌, nat_le, nat_eq, bytes_eq, List, [], ◌∷◌, map, codes}
 use Rattle.std.specs.List.{list_all, list_any, starts_with}
 use Rattle.c_tree.specs.Plain.{Word}
+use Rattle.c_tree.specs.Grammar.Symbols.{words}
 
 abbrev pub is_letter : ℕ → Bool
 is_letter b = nat_le 65 b && nat_le b 90 || (nat_le 97 b && nat_le b 122 || nat_eq b 95)
@@ -20,9 +21,7 @@ is_word (b ∷ bs) = is_letter b && list_all is_word_byte bs
 
 -- the words of the grammar, which are no names
 abbrev pub grammar_words : List Word
-grammar_words =
-    codes "void" ∷ codes "int64_t" ∷ codes "uint64_t" ∷ codes "const" ∷ codes "for" ∷ codes "if" ∷ codes "else" ∷ codes "unsigned"
-    ∷ codes "__int128" ∷ codes "return" ∷ codes "umin" ∷ codes "umax" ∷ codes "calloc" ∷ codes "bal_min" ∷ codes "bal_max" ∷ codes "bal_wide" ∷ []
+grammar_words = map (λ w. w.0) words
 
 -- words that C or its headers take
 abbrev pub c_words : List Word

@@ -10,11 +10,14 @@ mod frame;
 mod memory;
 mod name;
 mod ops;
+mod printed_text;
 mod refusal;
+mod reserved_words;
 mod run;
 mod signed_names;
 mod stmt;
 mod symbol;
+mod token;
 mod unit;
 
 pub use affine::{Affine, Affines, Terms};
@@ -24,9 +27,12 @@ pub use frame::{ArrayCells, ArrayInfo, Arrays, Cells, Frame, Inputs, Ints, Site}
 pub use memory::OutOfMemory;
 pub use name::{Name, NameList};
 pub use ops::{shifted_left, shifted_right};
+pub use printed_text::{is_printed, preamble};
 pub use refusal::{Counted, Refusal};
+pub use reserved_words::{is_reserved, is_word, is_word_byte};
 pub use run::{ArrayNumbers, Ended, Flip, Lengths, Totals, Verdict};
 pub use signed_names::{Kind, SignedNames, is_named};
 pub use stmt::{Stmt, Stmts, Tests};
 pub use symbol::Symbol;
+pub use token::{Token, TokenKind, Tokens};
 pub use unit::{Param, Params, Ranges, Unit, Words, array_names, int_names};

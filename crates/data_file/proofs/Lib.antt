@@ -1,4 +1,5 @@
 pub mod CarriedInputs
+pub mod Complete
 pub mod Decimals
 pub mod Filled
 pub mod Fronts
@@ -6,6 +7,7 @@ pub mod LineSteps
 pub mod LinesLaws
 pub mod Marks
 pub mod NamePlaces
+pub mod OneLoopFrames
 pub mod Pieces
 pub mod RowLaws
 pub mod RowTexts
@@ -15,5 +17,7 @@ pub mod Sums
 pub mod TextLaws
 pub mod Turns
 pub mod Unique
+pub mod UnitFrames
 pub mod Whole
+pub mod WordRows
 pub mod Written

@@ -43,3 +43,12 @@ Answers f text (Err (OutOfRange k)) = FirstOutside f text k
 Answers f text (Err (TooLarge k)) = FirstTooLarge f text k
 Answers f text (Err (WrongCells k wanted given)) = FirstWrong f text k wanted given
 Answers f text (Err OutOfMemory) = Unit {0}
+
+-- the text is refused for this cause; want of memory is none
+pub record IsRefused (f : Frame) (text : List ℕ) (why : DataRefusal) : Type 0 where
+  pub answers : Answers f text (Err why)
+  pub cause : why ≡ OutOfMemory → ⊥
+
+-- the text means inputs that fit, or it is refused
+abbrev pub IsAnswered : Frame → List ℕ → Type 0
+IsAnswered f text = ((i : Inputs) × MeansFitting f text i) ⊎ ((why : DataRefusal) × IsRefused f text why)

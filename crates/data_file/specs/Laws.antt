@@ -1,4 +1,4 @@
--- Laws: a text gets one answer, and what is written is read back.
+-- Laws: a text gets an answer, and one alone, and what is written is read back.
 use Rattle.std.specs.Prelude.{◌≡◌, ◌⊎◌, ℕ, ◌^◌, ◌<◌, not, true, nat_eq, List, length, FitsSigned, Result, Ok, Err}
 use Rattle.std.specs.Int.{w64}
 use Rattle.std.specs.List.{AllByRecursion}
@@ -6,7 +6,7 @@ use Rattle.c_tree.specs.declared.frame.Frame.{Frame}
 use Rattle.c_tree.specs.declared.frame.Inputs.{Inputs}
 use Rattle.data_file.specs.declared.refusal.DataRefusal.{DataRefusal}
 use Rattle.data_file.specs.declared.refusal.DataRefusal.TheVariants.{OutOfMemory}
-use Rattle.data_file.specs.Answers.{Answers}
+use Rattle.data_file.specs.Answers.{Answers, IsAnswered}
 use Rattle.data_file.specs.Checks.{Fits}
 use Rattle.data_file.specs.Conditions.{HasOwnNames, HasRows, names_in}
 use Rattle.data_file.specs.Texts.{data_text}
@@ -16,6 +16,10 @@ abbrev pub HasOneAnswer : Type 0
 HasOneAnswer =
     (f : Frame) (text : List ℕ) (r s : Result Inputs DataRefusal) → HasOwnNames f → Answers f text r → Answers f text s
     → (r ≡ Err OutOfMemory → ⊥) → (s ≡ Err OutOfMemory → ⊥) → r ≡ s
+
+-- Each text means inputs that fit, or is refused.
+abbrev pub HasSomeAnswer : Type 0
+HasSomeAnswer = (f : Frame) (text : List ℕ) → HasOwnNames f → IsAnswered f text
 
 -- inputs that can be written: values of an i64, and at least one cell for each array, each below 2^64
 pub record CanBeWritten (f : Frame) (i : Inputs) : Type 0 where

@@ -1,6 +1,7 @@
 pub mod Answers
 pub mod Checks
 pub mod Conditions
+pub mod Frames
 pub mod Laws
 pub mod Meaning
 pub mod Outcome

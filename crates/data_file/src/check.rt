@@ -1,14 +1,13 @@
 //! Whether values lie within their ranges, and how many cells arrays have for them.
 
-ghost use Rattle.std.specs.Prelude.{◌≡◌, ◌≤◌, ◌<◌, length, slice_get, Some, min, nat_lt, IfSome, ℕ, MatchOption, int_lt, ◌||◌};
+ghost use Rattle.std.specs.Prelude.{◌≡◌, ◌≤◌, ◌<◌, length, slice_get, Some, min, nat_lt, IfSome, IfNone, ℕ, MatchOption, int_lt, ◌||◌};
 ghost use Rattle.c_tree.specs.Arrays as arrays;
 ghost use Rattle.data_file.specs.Checks as spec;
 ghost use Rattle.data_file.specs.Checks.{FindsFirst, IsFirst, NonePasses};
-ghost use Rattle.data_file.specs.Conditions.{IsFrame, IsSmallSum, AreSmall};
+ghost use Rattle.data_file.specs.Conditions.{HasRows, IsFrame, IsSmallSum, AreSmall};
 ghost use Rattle.c_tree.specs.declared.affine.Affine.{Affine};
 
 use c_tree::{Affine, ArrayInfo, Frame, Inputs};
-use sqlite_items::at;
 
 /// The most cells of an array.
 const MOST_CELLS: u64 = 4_194_304;
@@ -19,24 +18,27 @@ fn is_beyond(low: i64, high: i64, value: i64) -> bool
     value < low || high < value
 }
 
-fn is_outside(f: &Frame, ints: &[i64], parameter: usize) -> bool
-    ensures { result ≡ spec.is_outside f.now ints.now parameter }
+fn is_outside(f: &Frame, i: &Inputs, parameter: usize) -> bool
+    ensures { result ≡ spec.is_outside f.now i.now.ints parameter }
 {
     let Some((_, low, high)) = f.ints.get(parameter) else {
         return false;
     };
-    let Some(value) = at(ints, parameter) else {
+    let Some(value) = i.ints.get(parameter) else {
         return false;
     };
     is_beyond(*low, *high, *value)
 }
 
-/// The number of the first parameter whose value is outside its range.
-pub fn first_outside(f: &Frame, ints: &[i64]) -> Option<usize>
-    ensures { FindsFirst (spec.is_outside f.now ints.now) (length f.now.ints) result }
+/// The number of the first parameter whose value is outside its range. Where none is, values are small.
+pub fn first_outside(f: &Frame, i: &Inputs) -> Option<usize>
+    requires frame { IsFrame f.now }
+    requires rows { HasRows f.now i.now }
+    ensures first { FindsFirst (spec.is_outside f.now i.now.ints) (length f.now.ints) result }
+    ensures small { IfNone result (AreSmall i.now.ints) }
 {
     for parameter in 0..f.ints.len() {
-        if is_outside(f, ints, parameter) {
+        if is_outside(f, i, parameter) {
             return Some(parameter);
         }
     }
@@ -98,25 +100,25 @@ fn cells_of_array(ints: &[i64], array: &ArrayInfo) -> u64
 }
 
 /// The cells of the array of this number.
-fn wanted_cells(f: &Frame, ints: &[i64], array: usize) -> u64
+fn wanted_cells(f: &Frame, i: &Inputs, array: usize) -> u64
     requires frame { IsFrame f.now }
-    requires values { AreSmall ints.now }
-    ensures { result ≡ min (spec.wanted_cells f.now ints.now array) 4194305 }
+    requires values { AreSmall i.now.ints }
+    ensures { result ≡ min (spec.wanted_cells f.now i.now.ints array) 4194305 }
 {
     match f.arrays.get(array) {
-        Some(array) => cells_of_array(ints, array),
+        Some(array) => cells_of_array(i.ints.as_slice(), array),
         None => 0,
     }
 }
 
 /// The number of the first array that has too many cells.
-pub fn first_too_large(f: &Frame, ints: &[i64]) -> Option<usize>
+pub fn first_too_large(f: &Frame, i: &Inputs) -> Option<usize>
     requires frame { IsFrame f.now }
-    requires values { AreSmall ints.now }
-    ensures { FindsFirst (spec.is_too_large f.now ints.now) (length f.now.arrays) result }
+    requires values { AreSmall i.now.ints }
+    ensures { FindsFirst (spec.is_too_large f.now i.now.ints) (length f.now.arrays) result }
 {
     for array in 0..f.arrays.len() {
-        if wanted_cells(f, ints, array) > MOST_CELLS {
+        if wanted_cells(f, i, array) > MOST_CELLS {
             return Some(array);
         }
     }
@@ -152,7 +154,7 @@ pub fn first_mismatch(f: &Frame, i: &Inputs) -> Option<Mismatch>
         × (m.given ≡ spec.given_cells i.now.cells m.array)) }
 {
     for array in 0..f.arrays.len() {
-        let wanted = wanted_cells(f, i.ints.as_slice(), array);
+        let wanted = wanted_cells(f, i, array);
         let given = given_cells(i, array);
         if wanted != given {
             return Some(Mismatch {

@@ -19,7 +19,8 @@ ghost use Rattle.std.specs.Prelude.{◌≡◌, IfOk};
 ghost use Rattle.data_file.specs.Texts.{data_text, output_text};
 ghost use Rattle.data_file.specs.Answers.{Answers};
 ghost use Rattle.data_file.specs.Samples.{AreSamples};
-ghost use Rattle.data_file.specs.Laws.{HasOneAnswer, IsReadBack};
+ghost use Rattle.data_file.specs.Frames.{FitsAsFrame, FitsAsMeant, HasFrame};
+ghost use Rattle.data_file.specs.Laws.{HasOneAnswer, HasSomeAnswer, IsReadBack};
 ghost use Rattle.data_file.specs.Conditions.{HasRows, IsEndOf, IsFrame};
 
 use c_tree::{Ended, Frame, Inputs, OutOfMemory};
@@ -32,12 +33,12 @@ pub fn read_data(alloc: Global, f: &Frame, text: &[u8]) -> Result<Inputs, DataRe
     ensures { Answers f.now text.now result }
 {
     let inputs = lines::read_inputs(alloc, f, text)?;
-    if let Some(parameter) = check::first_outside(f, inputs.ints.as_slice()) {
+    if let Some(parameter) = check::first_outside(f, &inputs) {
         return Err(DataRefusal::OutOfRange {
             parameter: parameter as u64,
         });
     }
-    if let Some(array) = check::first_too_large(f, inputs.ints.as_slice()) {
+    if let Some(array) = check::first_too_large(f, &inputs) {
         return Err(DataRefusal::TooLarge {
             array: array as u64,
         });
@@ -81,15 +82,32 @@ pub fn one_answer()
     ensures { HasOneAnswer }
 {}
 
+/// Each text means inputs that fit, or is refused for another cause than want of memory.
+pub fn some_answer()
+    ensures { HasSomeAnswer }
+{}
+
 /// What is written of inputs that fit is read back.
 pub fn written_is_read()
     ensures { IsReadBack }
+{}
+
+/// Inputs fit a unit exactly where they fit its frame.
+pub fn fits_as_frame()
+    ensures { FitsAsFrame }
+{}
+
+/// Inputs that a text means by the frame of a unit, and that fit it, fit the unit.
+pub fn fits_as_meant()
+    ensures { FitsAsMeant }
+{}
+
+/// Each unit of the one-loop form has a frame.
+pub fn one_loop_has_frame()
+    ensures { HasFrame }
 {}
 
 /// There are frames and inputs that meet all that is asked of them.
 pub fn samples_meet_conditions()
     ensures { AreSamples }
 {}
-
-#[cfg(test)]
-mod tests;

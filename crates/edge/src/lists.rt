@@ -288,27 +288,3 @@ impl AskedList {
         Ok(())
     }
 }
-
-#[cfg(test)]
-mod tests {
-    use super::*;
-    use std::test::Fail;
-
-    #[test]
-    fn lists_give_what_they_were_given(rt: HostRuntime) -> Result<(), Fail> {
-        let alloc = rt.alloc();
-        let bytes = ByteList::new(vec![in alloc; 1, 2]?);
-        assert_eq!(rt; bytes.into_vec().as_slice(), [1, 2].as_slice());
-        let mut bounded = BoundedBytes::with_room(alloc, 3)?;
-        bounded.append(b"ab");
-        assert_eq!(rt; bounded.as_slice(), b"ab".as_slice());
-        assert_eq!(rt; bounded.left(), 1);
-        let mut asked = AskedList::new(alloc);
-        assert!(rt; asked.is_empty());
-        asked.push(alloc, "a")?;
-        assert_eq!(rt; asked.get(0), Some(b"a".as_slice()));
-        assert_eq!(rt; asked.get(1), None);
-        assert_eq!(rt; (asked.len(), asked.next_number()), (1, 2));
-        Ok(())
-    }
-}

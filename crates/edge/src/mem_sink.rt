@@ -72,23 +72,3 @@ impl Sink for MemSink {
         Ok(taken)
     }
 }
-
-#[cfg(test)]
-mod tests {
-    use super::*;
-    use crate::write_all;
-    use std::test::Fail;
-
-    #[test]
-    fn takes_pieces_until_the_room_is_full(rt: HostRuntime) -> Result<(), Fail> {
-        let mut failing = Numbers::new(rt.alloc());
-        failing.push(3)?;
-        let mut out = MemSink::new(rt.alloc(), 5, 2, failing)?;
-        assert_eq!(rt; write_all(&mut out, b"abcd"), Ok(()));
-        assert_eq!(rt; write_all(&mut out, b"ef"), Err(SinkFailed));
-        assert_eq!(rt; write_all(&mut out, b"ef"), Err(SinkFailed));
-        assert_eq!(rt; out.bytes.as_slice(), b"abcde".as_slice());
-        assert_eq!(rt; (out.calls, out.faults), (5, 2));
-        Ok(())
-    }
-}

@@ -33,22 +33,3 @@ impl<W: Write> Sink for StdSink<W> {
         }
     }
 }
-
-#[cfg(test)]
-mod tests {
-    use super::*;
-    use crate::write_all;
-    use std::test::Fail;
-
-    #[test]
-    fn writes_to_streams_and_counts_faults(rt: HostRuntime) -> Result<(), Fail> {
-        let mut stream = StdSink::new(rt.stderr());
-        assert_eq!(rt; write_all(&mut stream, b"written by a test\n"), Ok(()));
-        assert_eq!(rt; stream.faults, 0);
-        let mut room = [0; 3];
-        let mut full = StdSink::new(room.as_mut_slice());
-        assert_eq!(rt; write_all(&mut full, b"abcd"), Err(SinkFailed));
-        assert_eq!(rt; full.faults, 1);
-        Ok(())
-    }
-}

@@ -1,6 +1,6 @@
 //! The instrumented unit of a text.
 
-use c_parser::parse;
+use crate::sources::source;
 use c_tree::{Refusal, Unit};
 use rewrite::instrument_one;
 use std::alloc::Global;
@@ -13,12 +13,7 @@ void shift(int64_t n, uint64_t A[n]) {
 ";
 
 fn instrumented(alloc: Global, text: &[u8]) -> Result<Unit, Refusal> {
-    if text.len() > 16777216 {
-        return Err(Refusal::TextTooLong {
-            length: text.len() as u64,
-        });
-    }
-    Ok(instrument_one(alloc, &parse(alloc, text)?)?)
+    Ok(instrument_one(alloc, &source(alloc, text)?)?)
 }
 
 #[test]

@@ -136,37 +136,116 @@ fn are_ranges(ranges: &[(Name, i64, i64)]) -> bool {
     }
 }
 
+/// The unit that SHIFT spells.
+fn is_shift_unit(unit: &Unit) -> bool {
+    let only_loop = match unit.body.as_slice() {
+        [only] => is_loop(only),
+        _ => false,
+    };
+    only_loop
+        && unit.version.is_none()
+        && are_ranges(unit.ranges.as_slice())
+        && is_word(&unit.name, b"shift")
+        && are_params(unit.params.as_slice())
+        && unit.words.is_empty()
+        && unit.wides.is_empty()
+}
+
 #[test]
 fn reads_a_shift(rt: HostRuntime) {
     let Ok(unit) = read(rt.alloc(), SHIFT) else {
         panic!(rt; "refused");
     };
-    assert!(rt; unit.version.is_none());
-    assert!(rt; are_ranges(unit.ranges.as_slice()));
-    assert!(rt; is_word(&unit.name, b"shift"));
-    assert!(rt; are_params(unit.params.as_slice()));
-    assert!(rt; unit.words.is_empty() && unit.wides.is_empty());
-    match unit.body.as_slice() {
-        [only] => assert!(rt; is_loop(only)),
-        _ => panic!(rt; "one loop"),
-    }
+    assert!(rt; is_shift_unit(&unit));
 }
 
-/// Spaced in other ways, and at the limits of a sum.
+/// Spaced in other ways.
 #[test]
 fn reads_each_layout(rt: HostRuntime) {
-    let texts: [&[u8]; 8] = [
+    let texts: [&[u8]; 6] = [
         b"\n  \n#include <stdint.h>\n\n\t\n#pragma balance range n 1 1000\nvoid shift(int64_t n, uint64_t A[n]) {\n  for (int64_t i = 0; i < n - 1; i++)\n    A[i + 1] = A[i] + 1;\n}\n",
         b"#pragma balance range n 1 1000\n#include <stdint.h>\n#include <stdlib.h>\nvoid shift(int64_t n, uint64_t A[n]) {\n  for (int64_t i = 0; i < n - 1; i++)\n    A[i + 1] = A[i] + 1;\n}\n",
         b"#include <stdint.h>\n#pragma balance range n 1 1000\nvoid shift(int64_t n, uint64_t A[n]) { for (int64_t i = 0; i < n - 1; i++) A[i + 1] = A[i] + 1; }\n",
         b"#include <stdint.h>\n#pragma balance range n 1 1000\nvoid shift(int64_t n, uint64_t A[n]) {\n\tfor (int64_t i\t=\t0; i < n - 1; i++)\n\t\tA[i + 1]\t=\tA[i] + 1;\n}\n",
         b"#include <stdint.h>\n#pragma balance range n 1 1000\nvoid shift(int64_t n, uint64_t A[n]) {\n  for (int64_t i = 0; i<n-1; i++)\n    A[i + 1] = A[i] + 1;\n}\n",
         b"#include <stdint.h>\n#pragma balance range n 1 1000\nvoid shift(int64_t n, uint64_t A[n]) {\n  for (int64_t i = 0; i < n - 1; i++)\n    A[i + 1] = A[i] + 1;\n}",
-        b"#include <stdint.h>\n#pragma balance range n 1 1000\nvoid shift(int64_t n, uint64_t A[n]) {\n  for (int64_t i = 0; i < n - 1; i++)\n    A[i + 1] = 1 + 1 + 1 + 1 + 1 + 1 + 1 + 1 + 1 + 1 + 1 + 1 + 1 + 1 + 1 + 1 + 1 + 1 + 1 + 1 + 1 + 1 + 1 + 1 + 1 + 1 + 1 + 1 + 1 + 1 + 1 + 1;\n}\n",
-        b"#include <stdint.h>\n#pragma balance range n 1 1000\nvoid shift(int64_t n, uint64_t A[n]) {\n  for (int64_t i = 0; i < n - 1; i++)\n    A[i + 1] = A[i] + A[i] + A[i] + A[i] + A[i] + A[i] + A[i] + A[i] + A[i] + A[i] + A[i] + A[i] + A[i] + A[i] + A[i] + A[i];\n}\n",
     ];
     for (i, text) in texts.iter().enumerate() {
-        assert!(rt; read(rt.alloc(), text).is_ok(), "text {i}");
+        let Ok(unit) = read(rt.alloc(), text) else {
+            panic!(rt; "text {i} is refused");
+        };
+        assert!(rt; is_shift_unit(&unit), "text {i}");
+    }
+}
+
+/// The value that the one assignment of a unit gives `A[i + 1]`.
+fn value_of(unit: &Unit) -> Option<&Expr> {
+    let body = match unit.body.as_slice() {
+        [Stmt::For { body, .. }] => body,
+        _ => return None,
+    };
+    match body.as_slice() {
+        [
+            Stmt::Assign {
+                target,
+                op: None,
+                value,
+            },
+        ] => match subscript(target) {
+            Some(at) if is_moved(at, b"i", BinOp::Add, 1) => Some(value),
+            _ => None,
+        },
+        _ => None,
+    }
+}
+
+/// The sum of so many ones, from the left.
+fn are_ones(sum: &Expr, count: u64) -> bool {
+    match sum {
+        Expr::Bin(BinOp::Add, before, last) => {
+            count > 1 && is_literal(last, 1) && are_ones(before, count - 1)
+        }
+        one => count == 1 && is_literal(one, 1),
+    }
+}
+
+fn is_cell(e: &Expr) -> bool {
+    match subscript(e) {
+        Some(at) => is_variable(at, b"i"),
+        None => false,
+    }
+}
+
+/// The sum of so many cells `A[i]`, from the left.
+fn are_cells(sum: &Expr, count: u64) -> bool {
+    match sum {
+        Expr::Bin(BinOp::Add, before, last) => {
+            count > 1 && is_cell(last) && are_cells(before, count - 1)
+        }
+        cell => count == 1 && is_cell(cell),
+    }
+}
+
+/// The greatest numbers of items and of cells.
+#[test]
+fn reads_the_longest_sums(rt: HostRuntime) {
+    let items =
+        b"#include <stdint.h>\n#pragma balance range n 1 1000\nvoid shift(int64_t n, uint64_t A[n]) {\n  for (int64_t i = 0; i < n - 1; i++)\n    A[i + 1] = 1 + 1 + 1 + 1 + 1 + 1 + 1 + 1 + 1 + 1 + 1 + 1 + 1 + 1 + 1 + 1 + 1 + 1 + 1 + 1 + 1 + 1 + 1 + 1 + 1 + 1 + 1 + 1 + 1 + 1 + 1 + 1;\n}\n";
+    let cells =
+        b"#include <stdint.h>\n#pragma balance range n 1 1000\nvoid shift(int64_t n, uint64_t A[n]) {\n  for (int64_t i = 0; i < n - 1; i++)\n    A[i + 1] = A[i] + A[i] + A[i] + A[i] + A[i] + A[i] + A[i] + A[i] + A[i] + A[i] + A[i] + A[i] + A[i] + A[i] + A[i] + A[i];\n}\n";
+    let Ok(unit) = read(rt.alloc(), items) else {
+        panic!(rt; "32 items are refused");
+    };
+    match value_of(&unit) {
+        Some(sum) => assert!(rt; are_ones(sum, 32)),
+        None => panic!(rt; "32 items"),
+    }
+    let Ok(unit) = read(rt.alloc(), cells) else {
+        panic!(rt; "16 cells are refused");
+    };
+    match value_of(&unit) {
+        Some(sum) => assert!(rt; are_cells(sum, 16)),
+        None => panic!(rt; "16 cells"),
     }
 }
 

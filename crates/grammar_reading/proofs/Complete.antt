@@ -1,26 +1,24 @@
 -- What is in the grammar is read: steps.
-use Rattle.std.proofs.Common.{◌≡◌, ℕ, zero, suc, ◌+◌, ◌-◌, ◌<◌, ◌≤◌, max, List, [], ◌∷◌, length, drop, Bool, true, false, cond, Option, Some, None, option_and_then, nat_lt, nat_le, refl, sym, ap, ◌∙◌, subst, arith}
-use Rattle.std.proofs.lemmas.Bool.{lt-ltb, le-leb, le-ltb}
-use Rattle.std.proofs.lemmas.Option.{same_Some, some_pair_parts}
-use denote.Enum.Bare.{sameb}
+use Rattle.std.proofs.Common.{◌≡◌, ℕ, zero, suc, ◌+◌, ◌-◌, ◌<◌, ◌≤◌, List, [], ◌∷◌, length, Bool, Option, Some, None, option_and_then, refl, sym, ap, ◌∙◌, arith}
+use Rattle.std.proofs.lemmas.Bool.{lt-ltb, le-ltb}
+use Rattle.std.proofs.lemmas.Option.{some_pair_parts}
 use Rattle.c_tree.specs.declared.expr.Rel.{Rel}
 use Rattle.c_tree.specs.declared.expr.Rel.TheVariants as r
 use Rattle.c_tree.specs.declared.expr.UnOp.{UnOp}
 use Rattle.c_tree.specs.declared.expr.UnOp.TheVariants.{Neg, Inv}
 use Rattle.c_tree.specs.declared.expr.BinOp.{BinOp}
 use Rattle.c_tree.specs.declared.expr.BinOp.TheVariants as o
-use Rattle.c_tree.specs.Plain.{Word, PlainExpr, lit, var, cell, un, bin, cast, test, widen, big, PlainExprs, no_exprs, more_exprs}
-use Rattle.c_tree.specs.contracts.symbol.Symbol.{the_type}
+use Rattle.c_tree.specs.Plain.{PlainExpr, bin, PlainExprs}
 use Rattle.c_tree.specs.declared.symbol.Symbol.{Symbol}
 use Rattle.c_tree.specs.declared.symbol.Symbol.TheVariants as s
 use Rattle.c_tree.specs.Grammar.Lexemes as t
 use Rattle.c_tree.specs.Grammar.Lexemes.{Lexeme}
-use Rattle.c_tree.specs.Grammar.Tables.{level, mark, un_mark, rel_mark, Call, call_min, call_max, call_least, call_greatest, call_word, called, allowed}
+use Rattle.c_tree.specs.Grammar.Tables.{level, mark, un_mark, rel_mark, Call, call_min, call_max, call_least, call_greatest, call_word}
 use Rattle.c_tree.specs.Grammar.Expressions as g
 use Rattle.c_tree.specs.Grammar.Expressions.{height, heights, IsExpr, IsCells}
 use Rattle.grammar_reading.specs.declared.rules.Rules.{Rules}
-use Rattle.grammar_reading.specs.Reading.{Read, same, expect, number_at, node, operator, front_op, front_rel, one_cell, cells, cells_by, signed, two, call, wide, wide_parts, grouped, grouped_by, cast_by, word_cast, wide_cast, wide_parts_cast, converted, converted_by, named_by, operand, climb, climb_by, close, closes, paren, paren_by, opens, opens_by, expr, lower}
-use Rattle.grammar_reading.proofs.StepLemmas.{bind_is, expect_is, expect_self, number_self, fits, operator-mark, no_operator, front_rel_is, relation-mark, level_bounds}
+use Rattle.grammar_reading.specs.Reading.{Read, same, expect, operator, front_op, operand, climb, climb_by, close, closes, paren, opens, opens_by, expr, lower}
+use Rattle.grammar_reading.proofs.StepLemmas.{bind_is, expect_is, expect_self, fits, operator-mark, level_bounds}
 use Rattle.grammar_reading.proofs.Sound.{op_level, at_most_six, paren_is}
 
 -- ---- what may follow

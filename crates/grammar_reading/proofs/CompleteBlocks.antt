@@ -1,12 +1,12 @@
 -- Whatever is a statement is read as one.
-use Rattle.std.proofs.Common.{◌≡◌, ℕ, zero, suc, ◌+◌, ◌-◌, ◌^◌, ◌<◌, ◌≤◌, max, List, [], ◌∷◌, length, drop, Bool, true, false, cond, Option, Some, None, option_and_then, ◌==◌, bytes_eq, refl, sym, ap, ◌∙◌, subst, arith}
-use Rattle.std.proofs.lemmas.Option.{same_Some, some_pair_parts}
+use Rattle.std.proofs.Common.{◌≡◌, ℕ, zero, suc, ◌+◌, ◌-◌, ◌^◌, ◌<◌, ◌≤◌, max, List, [], ◌∷◌, length, Bool, true, false, cond, Option, Some, None, option_and_then, ◌==◌, refl, sym, ap, ◌∙◌, subst, arith}
+use Rattle.std.proofs.lemmas.Option.{some_pair_parts}
 use Rattle.std.proofs.Math.Pow.{pow-lt}
 use Rattle.std.proofs.lemmas.Bool.{eq-eqb, eqb-true, eqb-false}
 use Rattle.c_tree.specs.declared.expr.Rel.{Rel}
 use Rattle.c_tree.specs.declared.expr.Rel.TheVariants as r
 use Rattle.c_tree.specs.declared.expr.BinOp.{BinOp}
-use Rattle.c_tree.specs.Plain.{Word, PlainExpr, var, cell, cast, PlainExprs, PlainTest, PlainStmt, loop, choice, assign, check, PlainStmts, no_stmts, more_stmts}
+use Rattle.c_tree.specs.Plain.{Word, PlainExpr, var, cell, cast, PlainTest, loop, assign, check, PlainStmts, no_stmts, more_stmts}
 use Rattle.c_tree.specs.declared.symbol.Symbol.{Symbol}
 use Rattle.c_tree.specs.declared.symbol.Symbol.TheVariants as s
 use Rattle.c_tree.specs.Grammar.Lexemes as t
@@ -19,13 +19,13 @@ use Rattle.c_tree.specs.Grammar.Conditions.{IsConj, IsCond}
 use Rattle.c_tree.specs.Grammar.Statements as k
 use Rattle.c_tree.specs.Grammar.Statements.{chain, one, set_op, bounds, IsStep, IsPlace, IsStmt, IsStmts, stmt_height, stmts_height}
 use Rattle.grammar_reading.specs.declared.rules.Rules.{Rules}
-use Rattle.grammar_reading.specs.Reading.{Read, same, expect, number_at, relation, front_rel, named, named_by, cells, node, expr, deepest, conds}
+use Rattle.grammar_reading.specs.Reading.{Read, same, expect, number_at, named_by, expr, deepest}
 use Rattle.grammar_reading.proofs.StepLemmas.{bind_is, expect_self, number_self, relation-mark, fits}
 use Rattle.grammar_reading.proofs.Sound.{loosen}
-use Rattle.grammar_reading.proofs.Complete.{binds, front_binds, op_le, no_cell, shorter, shorter_cells, cells_open, finish, binds-rel}
+use Rattle.grammar_reading.proofs.Complete.{binds, front_binds, op_le, no_cell, shorter, shorter_cells, cells_open, finish}
 use Rattle.grammar_reading.proofs.Reaches.{reaches, reaches_cells}
 use Rattle.grammar_reading.proofs.CondReaches.{cond_complete, shorter_cond}
-use Rattle.grammar_reading.specs.Blocks.{name_at, this_name, this_number, set_at, bound_at, step_on, step_by, step_at, array_below, side, place, assign_at, for_start, for_bound, for_step, check_start, check_middle, check_front, check_end, for_at, else_by, if_plain, if_by, if_open, if_at, by_sign, stmt_at, closing, inside_by, inside, body_by, body, simple}
+use Rattle.grammar_reading.specs.Blocks.{name_at, this_name, this_number, set_at, bound_at, step_at, array_below, side, place, assign_at, for_start, for_bound, for_step, check_start, check_middle, check_front, check_end, for_at, else_by, if_plain, if_by, if_at, by_sign, stmt_at, inside_by, inside, body_by, body, simple}
 use Rattle.grammar_reading.proofs.SoundBlocks.{check_start_sound, check_middle_sound}
 use Rattle.grammar_reading.proofs.Words.{bytes_same}
 
@@ -109,25 +109,25 @@ shorter_step (k.behind v) = omega arith
 shorter_step (k.before v) = omega arith
 shorter_step (k.by_one v) = omega arith
 
-abbrev Begins : List Lexeme → Type 0
-Begins ts = (expect s.CloseBrace ts ≡ None) × (expect s.Return ts ≡ None) × (expect s.Else ts ≡ None)
+abbrev pub Begins : List Lexeme → Type 0
+Begins ts = (expect s.CloseBrace ts ≡ None) × (expect s.Return ts ≡ None) × (expect s.Else ts ≡ None) × (expect s.Directive ts ≡ None) × (expect s.Uint64 ts ≡ None) × (expect s.Unsigned ts ≡ None)
 
 name_begins : (x : Word) (ts : List Lexeme) → Begins (t.name x ∷ ts)
 unfolding expect
-name_begins x ts = (refl, refl, refl)
+name_begins x ts = (refl, refl, refl, refl, refl, refl)
 
-begins : {p : Bool} {m : ℕ} {open_end : Bool} {ts rest : List Lexeme} {us : PlainStmts} → IsStmt p m open_end ts us rest → Begins ts
+pub begins : {p : Bool} {m : ℕ} {open_end : Bool} {ts rest : List Lexeme} {us : PlainStmts} → IsStmt p m open_end ts us rest → Begins ts
 unfolding expect same
-begins k.empty = (refl, refl, refl)
-begins (k.block d) = (refl, refl, refl)
+begins k.empty = (refl, refl, refl, refl, refl, refl)
+begins (k.block d) = (refl, refl, refl, refl, refl, refl)
 begins (k.assigned j op sets target value) = let (x, zs, e) = place_front target in subst Begins (sym e) (name_begins x zs)
-begins (k.for v rel fine lo hi step d) = (refl, refl, refl)
-begins (k.when tests d) = (refl, refl, refl)
-begins (k.whether tests d other) = (refl, refl, refl)
-begins (k.checked x a lt d) = (refl, refl, refl)
+begins (k.for v rel fine lo hi step d) = (refl, refl, refl, refl, refl, refl)
+begins (k.when tests d) = (refl, refl, refl, refl, refl, refl)
+begins (k.whether tests d other) = (refl, refl, refl, refl, refl, refl)
+begins (k.checked x a lt d) = (refl, refl, refl, refl, refl, refl)
 
 mutual
-  shorter_stmt : {p : Bool} {m : ℕ} {open_end : Bool} {ts rest : List Lexeme} {us : PlainStmts} → IsStmt p m open_end ts us rest → length rest < length ts
+  pub shorter_stmt : {p : Bool} {m : ℕ} {open_end : Bool} {ts rest : List Lexeme} {us : PlainStmts} → IsStmt p m open_end ts us rest → length rest < length ts
   shorter_stmt k.empty = omega arith
   shorter_stmt (k.block d) = omega (arith, shorter_stmts d)
   shorter_stmt (k.assigned j op sets target value) = omega (arith, shorter_place target, shorter value.reads)
@@ -136,7 +136,7 @@ mutual
   shorter_stmt (k.whether tests d other) = omega (arith, shorter_cond tests, shorter_stmt d, shorter_stmt other)
   shorter_stmt (k.checked x a lt d) = omega (arith, shorter d.reads)
 
-  shorter_stmts : {p : Bool} {m : ℕ} {ts rest : List Lexeme} {us : PlainStmts} → IsStmts p m ts us rest → length rest ≤ length ts
+  pub shorter_stmts : {p : Bool} {m : ℕ} {ts rest : List Lexeme} {us : PlainStmts} → IsStmts p m ts us rest → length rest ≤ length ts
   shorter_stmts k.end = omega arith
   shorter_stmts (k.more d others) = omega (arith, shorter_stmt d, shorter_stmts others)
 
@@ -190,9 +190,9 @@ check_cond : {p : Bool} {m : ℕ} (x : Word) (ts rest : List Lexeme) (u : PlainE
     → IsCond p (suc m) (t.name x ∷ t.symbol s.GreaterEqual ∷ t.symbol s.OpenParen ∷ t.symbol s.Uint64 ∷ t.symbol s.CloseParen ∷ t.symbol s.OpenParen ∷ ts) ((r.Ge, var x, cast u) ∷ []) rest
 check_cond {p = p} {m = m} x ts rest u d =
     let left : IsLow p (suc m) 4 (t.name x ∷ t.symbol s.GreaterEqual ∷ t.symbol s.OpenParen ∷ t.symbol s.Uint64 ∷ t.symbol s.CloseParen ∷ t.symbol s.OpenParen ∷ ts) (var x) (t.symbol (rel_mark r.Ge) ∷ t.symbol s.OpenParen ∷ t.symbol s.Uint64 ∷ t.symbol s.CloseParen ∷ t.symbol s.OpenParen ∷ ts) =
-        record { reads = loosen p 7 4 _ _ (var x) (omega arith) (g.variable x); low = omega arith } in
+    record { reads = loosen p 7 4 _ _ (var x) (omega arith) (g.variable x); low = omega arith } in
     let right : IsLow p (suc m) 4 (t.symbol s.OpenParen ∷ t.symbol s.Uint64 ∷ t.symbol s.CloseParen ∷ t.symbol s.OpenParen ∷ ts) (cast u) rest =
-        record { reads = loosen p 7 4 _ _ (cast u) (omega arith) (g.as_word (g.enclosed d.reads)); low = omega (arith, d.low) } in
+    record { reads = loosen p 7 4 _ _ (cast u) (omega arith) (g.as_word (g.enclosed d.reads)); low = omega (arith, d.low) } in
     q.alone (q.comparison r.Ge left right)
 
 close_no_both : (ts : List Lexeme) → expect s.AndAnd (t.symbol s.CloseParen ∷ ts) ≡ None
@@ -267,24 +267,25 @@ module _ (c : Rules) where
       → (check_front c (t.name x ∷ t.symbol s.GreaterEqual ∷ t.symbol s.OpenParen ∷ t.symbol s.Uint64 ∷ t.symbol s.CloseParen ∷ t.symbol s.OpenParen ∷ ts) ≡ Some ((x, u), t.number (2 ^ (16 + a)) ∷ t.symbol s.Semicolon ∷ t.symbol s.CloseBrace ∷ rest))
       × (check_end c (x, u) (t.number (2 ^ (16 + a)) ∷ t.symbol s.Semicolon ∷ t.symbol s.CloseBrace ∷ rest) ≡ Some (one (check x u a), rest))
   unfolding check_front check_start check_middle check_end
-  check_read x a ts rest u lt turns d =
-      (ap (option_and_then _) (ap (option_and_then _) (name_self x _) ∙ ap (option_and_then _) (expect_self s.GreaterEqual _) ∙ ap (option_and_then _) (expect_self s.OpenParen _) ∙ ap (option_and_then _) (expect_self s.Uint64 _)
-          ∙ ap (option_and_then _) (expect_self s.CloseParen _) ∙ ap (option_and_then _) (expect_self s.OpenParen ts))
+  check_read x a ts rest u lt turns d = (
+    ap (option_and_then _) (ap (option_and_then _) (name_self x _) ∙ ap (option_and_then _) (expect_self s.GreaterEqual _) ∙ ap (option_and_then _) (expect_self s.OpenParen _) ∙ ap (option_and_then _) (expect_self s.Uint64 _)
+        ∙ ap (option_and_then _) (expect_self s.CloseParen _) ∙ ap (option_and_then _) (expect_self s.OpenParen ts))
         ∙ ap (option_and_then _) (ap (option_and_then _) (side_read ts _ u d turns refl) ∙ ap (option_and_then _) (expect_self s.CloseParen _) ∙ ap (option_and_then _) (expect_self s.CloseParen _)
-          ∙ ap (option_and_then _) (expect_self s.OpenBrace _) ∙ ap (option_and_then _) (expect_self s.Return _)),
-       ap (option_and_then _) (number_self _ _) ∙ ap (option_and_then _) (expect_self s.Semicolon _) ∙ ap (option_and_then _) (expect_self s.CloseBrace rest) ∙ ap (option_and_then _) (array_self 48 a lt))
+        ∙ ap (option_and_then _) (expect_self s.OpenBrace _) ∙ ap (option_and_then _) (expect_self s.Return _)),
+    ap (option_and_then _) (number_self _ _) ∙ ap (option_and_then _) (expect_self s.Semicolon _) ∙ ap (option_and_then _) (expect_self s.CloseBrace rest) ∙ ap (option_and_then _) (array_self 48 a lt),
+  )
 
 -- ---- blocks
 
-chain_again : (us vs ws : PlainStmts) → chain (chain us vs) ws ≡ chain us (chain vs ws)
+pub chain_again : (us vs ws : PlainStmts) → chain (chain us vs) ws ≡ chain us (chain vs ws)
 chain_again no_stmts vs ws = refl
 chain_again (more_stmts a us) vs ws = ap (more_stmts a) (chain_again us vs ws)
 
-chain_none : (us : PlainStmts) → chain us no_stmts ≡ us
+pub chain_none : (us : PlainStmts) → chain us no_stmts ≡ us
 chain_none no_stmts = refl
 chain_none (more_stmts a us) = ap (more_stmts a) (chain_none us)
 
-chain_heights : (us vs : PlainStmts) → stmts_height (chain us vs) ≡ max (stmts_height us) (stmts_height vs)
+pub chain_heights : (us vs : PlainStmts) → stmts_height (chain us vs) ≡ max (stmts_height us) (stmts_height vs)
 chain_heights no_stmts vs = omega arith
 chain_heights (more_stmts a us) vs = omega (arith, chain_heights us vs)
 
@@ -303,15 +304,21 @@ inside_is go zero held acc ts pos = absurd (let no : ⊥ = omega arith in no)
 inside_is go (suc n) held acc ts pos = let e : n ≡ suc n - 1 = omega arith in ap (λ j. inside_by go (inside go j) held acc ts (expect s.CloseBrace ts) (expect s.OpenBrace ts)) e
 
 into_of : {c : Rules} {depth : ℕ} {ts rest : List Lexeme} {us : PlainStmts} → Reach c depth ts us rest → Begins ts → length rest < length ts → (n held : ℕ) (acc : PlainStmts) → length ts ≤ n → Into c depth n held acc ts us rest
-into_of {c = c} {depth = depth} {ts = ts} {rest = rest} {us = us} (plain bare h) begins less n held acc room =
-    (n - 1, omega arith, inside_is (simple c depth) n held acc ts (omega arith) ∙ ap (λ o. inside_by (simple c depth) (inside (simple c depth) (n - 1)) held acc ts o (expect s.OpenBrace ts)) begins.0
-      ∙ ap (inside_by (simple c depth) (inside (simple c depth) (n - 1)) held acc ts None) bare ∙ ap (option_and_then _) h)
+into_of {c = c} {depth = depth} {ts = ts} {rest = rest} {us = us} (plain bare h) begins less n held acc room = (
+  n - 1,
+  omega arith,
+  inside_is (simple c depth) n held acc ts (omega arith) ∙ ap (λ o. inside_by (simple c depth) (inside (simple c depth) (n - 1)) held acc ts o (expect s.OpenBrace ts)) begins.0
+      ∙ ap (inside_by (simple c depth) (inside (simple c depth) (n - 1)) held acc ts None) bare ∙ ap (option_and_then _) h,
+)
 into_of {c = c} {depth = depth} {ts = ts} {rest = rest} {us = us} (braced {inner = inner} is fewer go) begins less n held acc room =
-    let (j, more, h) = go (n - 1) (suc held) acc (omega arith) in
-    (j - 1, omega arith, inside_is (simple c depth) n held acc ts (omega arith) ∙ ap (λ o. inside_by (simple c depth) (inside (simple c depth) (n - 1)) held acc ts o (expect s.OpenBrace ts)) begins.0
-      ∙ ap (inside_by (simple c depth) (inside (simple c depth) (n - 1)) held acc ts None) is
-      ∙ h ∙ inside_is (simple c depth) j (suc held) (chain acc us) (t.symbol s.CloseBrace ∷ rest) (omega arith)
-      ∙ ap (λ o. inside_by (simple c depth) (inside (simple c depth) (j - 1)) (suc held) (chain acc us) (t.symbol s.CloseBrace ∷ rest) o (expect s.OpenBrace (t.symbol s.CloseBrace ∷ rest))) (expect_self s.CloseBrace rest))
+    let (j, more, h) = go (n - 1) (suc held) acc (omega arith) in (
+      j - 1,
+      omega arith,
+      inside_is (simple c depth) n held acc ts (omega arith) ∙ ap (λ o. inside_by (simple c depth) (inside (simple c depth) (n - 1)) held acc ts o (expect s.OpenBrace ts)) begins.0
+          ∙ ap (inside_by (simple c depth) (inside (simple c depth) (n - 1)) held acc ts None) is
+          ∙ h ∙ inside_is (simple c depth) j (suc held) (chain acc us) (t.symbol s.CloseBrace ∷ rest) (omega arith)
+          ∙ ap (λ o. inside_by (simple c depth) (inside (simple c depth) (j - 1)) (suc held) (chain acc us) (t.symbol s.CloseBrace ∷ rest) o (expect s.OpenBrace (t.symbol s.CloseBrace ∷ rest))) (expect_self s.CloseBrace rest),
+    )
 
 body_of : {c : Rules} {depth : ℕ} {ts rest : List Lexeme} {us : PlainStmts} → Reach c depth ts us rest → length ts < c.turns → body (simple c depth) c.turns ts ≡ Some (us, rest)
 body_of {c = c} {depth = depth} {ts = ts} (plain bare h) turns = ap (body_by (simple c depth) c.turns ts) bare ∙ h
@@ -399,21 +406,21 @@ mutual
   reach {ts = ts} {rest = rest} (k.assigned {value = value} {x = x} {u = u} j op sets target d) c e f some depth high turns ends =
       let (y, zs, is) = place_front target in
       plain (subst (λ z. expect s.OpenBrace z ≡ None) (sym is) (name_open y zs))
-        (simple_is c depth ts (omega arith) ∙ named_stmt c (body (simple c (depth - 1)) c.turns) ts y zs is ∙ assign_read c j op ts value rest x u sets (places c e f target) (lows c e f d) turns)
+      (simple_is c depth ts (omega arith) ∙ named_stmt c (body (simple c (depth - 1)) c.turns) ts y zs is ∙ assign_read c j op ts value rest x u sets (places c e f target) (lows c e f d) turns)
   reach {rest = rest} (k.for {open_end = open_end} {ts = ts} {second = second} {step = step} {body = inner} {lo = lo} {hi = hi} {us = us} v rel fine dl dh ds d) c e f some depth high turns ends =
       let less = shorter dl.reads in
       let less2 = shorter dh.reads in
       let less3 = shorter_step ds in
       let part = body_of (reach d c e f some (depth - 1) (omega arith) (omega arith) ends) (omega arith) in
       plain (for_open _).0 (sign_read c depth s.For _ (omega arith)
-        ∙ for_reads c (body (simple c (depth - 1)) c.turns) v rel _ (t.name v ∷ t.symbol (rel_mark rel) ∷ second) step inner rest lo hi us
-            (start_read c v ts _ lo (lows c e f dl) (omega arith)) (bound_read c v rel second step hi fine (lows c e f dh) (omega arith)) (step_read c v step inner ds) part)
+      ∙ for_reads c (body (simple c (depth - 1)) c.turns) v rel _ (t.name v ∷ t.symbol (rel_mark rel) ∷ second) step inner rest lo hi us
+      (start_read c v ts _ lo (lows c e f dl) (omega arith)) (bound_read c v rel second step hi fine (lows c e f dh) (omega arith)) (step_read c v step inner ds) part)
   reach {rest = rest} (k.when {open_end = open_end} {ts = ts} {first = first} {cs = cs} {us = us} tests d) c e f some depth high turns ends =
       let less = shorter_cond tests in
       let part = body_of (reach d c e f some (depth - 1) (omega arith) (omega arith) (λ i. ends refl)) (omega arith) in
       let go = body (simple c (depth - 1)) c.turns in
       plain (for_open _).1 (sign_read c depth s.If _ (omega arith) ∙ if_reads c go ts (no_check c ts first rest cs us some (omega arith) (conds_of c e f tests) (stmt_of c e f d))
-        ∙ if_plain_reads c go ts first rest cs us (omega arith) (conds_of c e f tests) part ∙ ap (else_by c go cs us rest) (ends refl))
+      ∙ if_plain_reads c go ts first rest cs us (omega arith) (conds_of c e f tests) part ∙ ap (else_by c go cs us rest) (ends refl))
   reach {rest = rest} (k.whether {open_end = open_end} {ts = ts} {first = first} {other = other} {cs = cs} {us = us} {vs = vs} tests d d2) c e f some depth high turns ends =
       let less = shorter_cond tests in
       let less2 = shorter_stmt d in
@@ -421,7 +428,7 @@ mutual
       let part2 = body_of (reach d2 c e f some (depth - 1) (omega arith) (omega arith) ends) (omega arith) in
       let go = body (simple c (depth - 1)) c.turns in
       plain (for_open _).1 (sign_read c depth s.If _ (omega arith) ∙ if_reads c go ts (no_check c ts first _ cs us some (omega arith) (conds_of c e f tests) (stmt_of c e f d))
-        ∙ if_plain_reads c go ts first (t.symbol s.Else ∷ other) cs us (omega arith) (conds_of c e f tests) part ∙ ap (else_by c go cs us (t.symbol s.Else ∷ other)) (expect_self s.Else other) ∙ ap (option_and_then _) part2)
+      ∙ if_plain_reads c go ts first (t.symbol s.Else ∷ other) cs us (omega arith) (conds_of c e f tests) part ∙ ap (else_by c go cs us (t.symbol s.Else ∷ other)) (expect_self s.Else other) ∙ ap (option_and_then _) part2)
   reach {rest = rest} (k.checked {ts = ts} {u = u} x a lt d) c e f some depth high turns ends =
       let (front, end) = check_read c x a ts rest u lt (omega arith) (lows c e f d) in
       plain (for_open _).1 (sign_read c depth s.If _ (omega arith) ∙ check_reads c (body (simple c (depth - 1)) c.turns) _ _ rest (x, u) _ e front end)
@@ -438,3 +445,10 @@ mutual
 
 pub body_complete : (c : Rules) (depth : ℕ) (open_end : Bool) (ts rest : List Lexeme) (us : PlainStmts) → 1 ≤ c.limit → IsStmt c.printed c.limit open_end ts us rest → stmts_height us ≤ depth → length ts < c.turns → (open_end ≡ true → expect s.Else rest ≡ None) → body (simple c depth) c.turns ts ≡ Some (us, rest)
 body_complete c depth open_end ts rest us some d high turns ends = body_of (reach d c refl refl some depth high turns ends) turns
+
+-- the statements of a whole block, behind its brace
+pub inside_read : (c : Rules) (depth : ℕ) (ts rest : List Lexeme) (us : PlainStmts) → 1 ≤ c.limit → IsStmts c.printed c.limit ts us (t.symbol s.CloseBrace ∷ rest) → stmts_height us ≤ depth → length ts < c.turns → inside (simple c depth) c.turns 0 no_stmts ts ≡ Some (us, rest)
+inside_read c depth ts rest us some d high turns =
+    let (j, more, h) = stmts_into d c refl refl some depth high turns c.turns 0 no_stmts (omega arith) in
+    h ∙ inside_is (simple c depth) j 0 us (t.symbol s.CloseBrace ∷ rest) (omega arith)
+    ∙ ap (λ o. inside_by (simple c depth) (inside (simple c depth) (j - 1)) 0 us (t.symbol s.CloseBrace ∷ rest) o (expect s.OpenBrace (t.symbol s.CloseBrace ∷ rest))) (expect_self s.CloseBrace rest)

@@ -1,21 +1,20 @@
 -- Whatever is a condition is read as one.
-use Rattle.std.proofs.Common.{◌≡◌, ℕ, zero, suc, ◌+◌, ◌-◌, ◌≤◌, ◌<◌, List, [], ◌∷◌, ◌++◌, length, drop, Bool, Option, Some, None, option_and_then, refl, sym, ap, ◌∙◌, subst, arith, append_assoc, append-nil}
-use Rattle.std.proofs.lemmas.Option.{same_Some, some_pair_parts}
+use Rattle.std.proofs.Common.{◌≡◌, ℕ, zero, suc, ◌+◌, ◌-◌, ◌≤◌, ◌<◌, List, [], ◌∷◌, ◌++◌, length, drop, Bool, Option, Some, None, option_and_then, refl, sym, ap, ◌∙◌, subst, arith, append_assoc}
+use Rattle.std.proofs.lemmas.Option.{some_pair_parts}
 use Rattle.c_tree.specs.declared.expr.Rel.{Rel}
 use Rattle.c_tree.specs.Plain.{PlainExpr, PlainTest}
 use Rattle.c_tree.specs.declared.symbol.Symbol.TheVariants as s
 use Rattle.c_tree.specs.Grammar.Lexemes as t
 use Rattle.c_tree.specs.Grammar.Lexemes.{Lexeme}
 use Rattle.c_tree.specs.Grammar.Tables.{rel_mark}
-use Rattle.c_tree.specs.Grammar.Expressions as g
-use Rattle.c_tree.specs.Grammar.Expressions.{height, IsExpr, IsLow}
+use Rattle.c_tree.specs.Grammar.Expressions.{IsLow}
 use Rattle.c_tree.specs.Grammar.Conditions as k
 use Rattle.c_tree.specs.Grammar.Conditions.{IsConj, IsCond}
 use Rattle.grammar_reading.specs.declared.rules.Rules.{Rules}
-use Rattle.grammar_reading.specs.Reading.{Read, same, expect, front_op, front_rel, operand, climb, close, closes, paren, opens, expr, lower, deepest, seek, seek_by, compare, shut, shut_by, ended, after_by, after, conds}
-use Rattle.grammar_reading.proofs.StepLemmas.{bind_is, expect_is, expect_self, front_rel_is, relation-mark, no_operator}
+use Rattle.grammar_reading.specs.Reading.{Read, same, expect, front_op, front_rel, climb, close, closes, paren, opens, expr, lower, deepest, seek, seek_by, compare, shut, shut_by, after_by, after, conds}
+use Rattle.grammar_reading.proofs.StepLemmas.{bind_is, expect_is, expect_self, relation-mark, no_operator}
 use Rattle.grammar_reading.proofs.Sound.{op_level, operand_sound, expr_sound, lower_sound, opens_is, wrapped}
-use Rattle.grammar_reading.proofs.Complete.{front_binds, op_le, binds-rel, shorter, no_type, climb_stops, Reaches, head, run, expr_is, more_parens, paren_opens, finish}
+use Rattle.grammar_reading.proofs.Complete.{front_binds, op_le, binds-rel, shorter, no_type, climb_stops, head, run, expr_is, more_parens, paren_opens, finish}
 use Rattle.grammar_reading.proofs.TwoStages.{stages, climb_within}
 use Rattle.grammar_reading.proofs.Reaches.{shrinks, rel_no_op, reaches}
 
@@ -89,7 +88,6 @@ head_shrinks c n ts x h =
     let d = operand_sound c (expr c n) (expr_sound c n) (lower c n) (lower_sound c n) (opens ts).1 x.1 x.0 h in
     omega (arith, shorter d, wrapped_length (opens ts).0 (opens ts).1, ap length (opens_is ts))
 
-
 compare_here : (c : Rules) (rel : Rel) (ts after rest : List Lexeme) (a b : PlainExpr) → length ts < c.turns → IsLow c.printed c.limit 4 ts a (t.symbol (rel_mark rel) ∷ after) → IsLow c.printed c.limit 4 after b rest → front_binds rest ≡ 0
     → compare c ts ≡ Some ((0, (rel, a, b)), rest)
 unfolding compare
@@ -125,6 +123,7 @@ compare_more c ts rest m x is h =
 -- no condition begins with the type of a cast
 mutual
   unfolding expect same
+
   conj_no_type : {p : Bool} {m : ℕ} {ts rest : List Lexeme} {us : List PlainTest} → IsConj p m ts us rest → (expect s.Uint64 ts ≡ None) × (expect s.Unsigned ts ≡ None)
   conj_no_type (k.comparison rel da db) = no_type da.reads
   conj_no_type (k.grouped d) = (refl, refl)
@@ -176,30 +175,37 @@ mutual
   conj_reaches : {p : Bool} {m : ℕ} {ts rest : List Lexeme} {us : List PlainTest} → IsConj p m ts us rest → (c : Rules) → c.printed ≡ p → c.limit ≡ m → length ts < c.turns → front_binds rest ≡ 0
       → First c ts × ((n held : ℕ) (acc : List PlainTest) → length ts ≤ n → Comes c n held acc ts us rest)
   conj_reaches {p = p} {ts = ts} {rest = rest} (k.comparison {after = second} {a = a} {b = b} rel da db) c is lim turns ends =
-      let one = compare_here c rel ts second rest a b turns (subst (λ q. IsLow q c.limit 4 ts a (t.symbol (rel_mark rel) ∷ second)) (sym is) (subst (λ j. IsLow p j 4 ts a (t.symbol (rel_mark rel) ∷ second)) (sym lim) da)) (subst (λ q. IsLow q c.limit 4 second b rest) (sym is) (subst (λ j. IsLow p j 4 second b rest) (sym lim) db)) ends in
-      ((0, (rel, a, b), rest, one),
+      let one = compare_here c rel ts second rest a b turns (subst (λ q. IsLow q c.limit 4 ts a (t.symbol (rel_mark rel) ∷ second)) (sym is) (subst (λ j. IsLow p j 4 ts a (t.symbol (rel_mark rel) ∷ second)) (sym lim) da)) (subst (λ q. IsLow q c.limit 4 second b rest) (sym is) (subst (λ j. IsLow p j 4 second b rest) (sym lim) db)) ends in (
+        (0, (rel, a, b), rest, one),
         λ n held acc room. let e : 0 + held ≡ held = omega arith in
-          (n - 1, omega (arith, shorter da.reads, shorter db.reads), conds_is c n held 0 acc (rel, a, b) ts rest (omega (arith, shorter da.reads)) one ∙ ap (λ j. after c (conds c (n - 1)) (shut j rest) (acc ++ (rel, a, b) ∷ [])) e))
+            (n - 1, omega (arith, shorter da.reads, shorter db.reads), conds_is c n held 0 acc (rel, a, b) ts rest (omega (arith, shorter da.reads)) one ∙ ap (λ j. after c (conds c (n - 1)) (shut j rest) (acc ++ (rel, a, b) ∷ [])) e),
+      )
   conj_reaches {rest = rest} (k.grouped {ts = ts} {us = us} d) c is lim turns ends =
       let (first, comes) = cond_reaches d c is lim (omega arith) refl in
       let types = cond_no_type d in
-      let opens = paren_opens ts types.0 types.1 in
-      ((suc first.0, first.1, first.2, compare_more c ts first.2 first.0 first.1 opens first.3),
+      let opens = paren_opens ts types.0 types.1 in (
+        (suc first.0, first.1, first.2, compare_more c ts first.2 first.0 first.1 opens first.3),
         λ n held acc room.
-          let (j, more, h) = comes n (suc held) acc (omega arith) in
-          (j, omega arith, lifted c n held acc ts (omega arith) opens first ∙ h ∙ ap (λ o. after c (conds c j) o (acc ++ us)) (shut_closes held rest)))
+            let (j, more, h) = comes n (suc held) acc (omega arith) in
+            (j, omega arith, lifted c n held acc ts (omega arith) opens first ∙ h ∙ ap (λ o. after c (conds c j) o (acc ++ us)) (shut_closes held rest)),
+      )
 
   pub cond_reaches : {p : Bool} {m : ℕ} {ts rest : List Lexeme} {us : List PlainTest} → IsCond p m ts us rest → (c : Rules) → c.printed ≡ p → c.limit ≡ m → length ts < c.turns → front_binds rest ≡ 0
       → First c ts × ((n held : ℕ) (acc : List PlainTest) → length ts ≤ n → Comes c n held acc ts us rest)
   cond_reaches (k.alone d) c is lim turns ends = conj_reaches d c is lim turns ends
   cond_reaches {rest = rest} (k.joined {after = behind} {us = us} {vs = vs} d others) c is lim turns ends =
       let (first, comes) = conj_reaches d c is lim turns refl in
-      let (first2, comes2) = cond_reaches others c is lim (omega (arith, shorter_conj d)) ends in
-      (first, λ n held acc room.
-        let (j, more, h) = comes n held acc room in
-        let (i, less, h2) = comes2 j held (acc ++ us) (omega arith) in
-        (i, less, h ∙ ap (λ o. after c (conds c j) o (acc ++ us)) (shut_both held behind) ∙ ap (after_by c (conds c j) held (acc ++ us) (t.symbol s.AndAnd ∷ behind)) (expect_self s.AndAnd behind)
-          ∙ h2 ∙ ap (λ ws. after c (conds c i) (shut held rest) ws) (append_assoc acc us vs)))
+      let (first2, comes2) = cond_reaches others c is lim (omega (arith, shorter_conj d)) ends in (
+        first,
+        λ n held acc room.
+            let (j, more, h) = comes n held acc room in
+            let (i, less, h2) = comes2 j held (acc ++ us) (omega arith) in (
+              i,
+              less,
+              h ∙ ap (λ o. after c (conds c j) o (acc ++ us)) (shut_both held behind) ∙ ap (after_by c (conds c j) held (acc ++ us) (t.symbol s.AndAnd ∷ behind)) (expect_self s.AndAnd behind)
+                  ∙ h2 ∙ ap (λ ws. after c (conds c i) (shut held rest) ws) (append_assoc acc us vs),
+            ),
+      )
 
 pub cond_complete : (c : Rules) (ts rest : List Lexeme) (us : List PlainTest) → IsCond c.printed c.limit ts us rest → length ts < c.turns → front_binds rest ≡ 0 → expect s.AndAnd rest ≡ None → conds c c.turns 0 [] ts ≡ Some (us, rest)
 unfolding shut

@@ -1,6 +1,6 @@
 -- What is read as a condition is one.
-use Rattle.std.proofs.Common.{◌≡◌, ℕ, zero, suc, ◌+◌, ◌≤◌, ◌<◌, List, [], ◌∷◌, ◌++◌, drop, Bool, Option, Some, None, option_and_then, refl, sym, ap, ◌∙◌, subst, arith, append_assoc, append-nil}
-use Rattle.std.proofs.lemmas.Option.{same_Some, some_pair_parts}
+use Rattle.std.proofs.Common.{◌≡◌, ℕ, zero, suc, ◌+◌, ◌≤◌, ◌<◌, List, [], ◌∷◌, ◌++◌, drop, Bool, Option, Some, None, refl, sym, ap, ◌∙◌, subst, arith, append_assoc, append-nil}
+use Rattle.std.proofs.lemmas.Option.{some_pair_parts}
 use Rattle.c_tree.specs.declared.expr.Rel.{Rel}
 use Rattle.c_tree.specs.Plain.{PlainExpr, PlainTest}
 use Rattle.c_tree.specs.declared.symbol.Symbol.TheVariants as s
@@ -12,7 +12,7 @@ use Rattle.c_tree.specs.Grammar.Expressions.{height, IsExpr, IsLow}
 use Rattle.c_tree.specs.Grammar.Conditions as k
 use Rattle.c_tree.specs.Grammar.Conditions.{IsConj, IsCond}
 use Rattle.grammar_reading.specs.declared.rules.Rules.{Rules}
-use Rattle.grammar_reading.specs.Reading.{Read, expect, front_op, front_rel, operand, climb, close, opens, expr, lower, deepest, seek, seek_by, compare, shut, shut_by, ended, after_by, after, conds}
+use Rattle.grammar_reading.specs.Reading.{Read, expect, front_op, front_rel, operand, climb, close, opens, expr, lower, deepest, seek, seek_by, compare, shut, shut_by, after_by, conds}
 use Rattle.grammar_reading.proofs.StepLemmas.{bind_is, expect_is, front_rel_is}
 use Rattle.grammar_reading.proofs.Sound.{op_level, at_most_six, Sound, climb_sound, close_from, operand_sound, expr_sound, lower_sound, wrapped, opens_is}
 use Rattle.grammar_reading.proofs.Low.{climb_low, close_low, operand_low, expr_low}
@@ -65,7 +65,7 @@ compare_sound c some ts rest x h =
     let q = some_pair_parts (z.0.0, (z.0.1, z.0.2, b.0)) x b.1 rest h6 in
     let d = k.comparison z.0.1 left right in
     subst (λ w. (start : List Lexeme) × (ts ≡ wrapped w.0 start) × IsConj c.printed c.limit start (w.1 ∷ []) rest) q.0
-      (subst (λ r. (start : List Lexeme) × (ts ≡ wrapped z.0.0 start) × IsConj c.printed c.limit start ((z.0.1, z.0.2, b.0) ∷ []) r) q.1 (start, opens_is ts ∙ is, d))
+    (subst (λ r. (start : List Lexeme) × (ts ≡ wrapped z.0.0 start) × IsConj c.printed c.limit start ((z.0.1, z.0.2, b.0) ∷ []) r) q.1 (start, opens_is ts ∙ is, d))
 
 -- ---- what follows a conjunct within so many open parentheses
 

@@ -1,9 +1,8 @@
 -- Range lines and parameters: the function against the relation.
-use Rattle.std.proofs.Common.{◌≡◌, ℕ, zero, suc, ℤ, pos, ◌+◌, ◌-◌, ◌^◌, ◌<◌, ◌≤◌, nat_lt, nat_le, List, [], ◌∷◌, length, Bool, true, false, cond, Option, Some, None, option_and_then, codes, refl, sym, ap, ◌∙◌, subst, arith}
-use Rattle.std.proofs.lemmas.Option.{same_Some, cond_some, some_pair_parts}
+use Rattle.std.proofs.Common.{◌≡◌, ℕ, zero, suc, ℤ, pos, ◌^◌, ◌<◌, ◌≤◌, nat_lt, nat_le, List, ◌∷◌, length, Bool, true, false, cond, Option, Some, None, option_and_then, codes, refl, sym, ap, ◌∙◌, subst, arith}
+use Rattle.std.proofs.lemmas.Option.{cond_some, some_pair_parts}
 use Rattle.std.proofs.lemmas.Bool.{ltb-true, leb-true, lt-ltb, le-leb}
 use Rattle.c_tree.specs.Plain.{Word, PlainExpr, PlainExprs, no_exprs, more_exprs, PlainParam, int_param, array_param}
-use Rattle.c_tree.specs.declared.symbol.Symbol.{Symbol}
 use Rattle.c_tree.specs.declared.symbol.Symbol.TheVariants as s
 use Rattle.c_tree.specs.Grammar.Lexemes as t
 use Rattle.c_tree.specs.Grammar.Lexemes.{Lexeme}
@@ -70,7 +69,7 @@ range_sound ts rest x e =
     let last = subst (λ z. IsInt lo.1 hi.0 z) (expect_is s.EndLine hi.1 r h11) (int_sound lo.1 hi.1 hi.0 h9) in
     let d = h.range y.0 (int_sound y.1 lo.1 lo.0 h7) last in
     let is : ts ≡ t.symbol s.Directive ∷ t.name (codes "range") ∷ t.name y.0 ∷ y.1 =
-        expect_is s.Directive ts t1 h1 ∙ ap (λ z. t.symbol s.Directive ∷ z) (this_name_is (codes "range") t1 t2 h3 ∙ ap (λ z. t.name (codes "range") ∷ z) (name_is t2 y.1 y.0 h5)) in
+    expect_is s.Directive ts t1 h1 ∙ ap (λ z. t.symbol s.Directive ∷ z) (this_name_is (codes "range") t1 t2 h3 ∙ ap (λ z. t.name (codes "range") ∷ z) (name_is t2 y.1 y.0 h5)) in
     range_moved _ ts r rest (y.0, lo.0, hi.0) x is q.0 q.1 d
 
 pub range_read : {ts rest : List Lexeme} {x : Word × ℤ × ℤ} → IsRange ts x rest → range_at ts ≡ Some (x, rest)
@@ -142,7 +141,7 @@ module _ (c : Rules) (some : 1 ≤ c.limit) where
       let q = some_pair_parts (int_param y.0) x y.1 rest h2 in
       let d : IsParam c.printed c.limit (t.symbol s.Int64 ∷ t.name y.0 ∷ y.1) (int_param y.0) y.1 = h.number y.0 in
       subst (λ z. IsParam c.printed c.limit z x rest) (sym (expect_is s.Int64 ts after is ∙ ap (λ z. t.symbol s.Int64 ∷ z) (name_is after y.1 y.0 h1)))
-        (subst (λ w. IsParam c.printed c.limit (t.symbol s.Int64 ∷ t.name y.0 ∷ y.1) w rest) q.0 (subst (λ r. IsParam c.printed c.limit (t.symbol s.Int64 ∷ t.name y.0 ∷ y.1) (int_param y.0) r) q.1 d))
+      (subst (λ w. IsParam c.printed c.limit (t.symbol s.Int64 ∷ t.name y.0 ∷ y.1) w rest) q.0 (subst (λ r. IsParam c.printed c.limit (t.symbol s.Int64 ∷ t.name y.0 ∷ y.1) (int_param y.0) r) q.1 d))
 
   pub param_sound : (ts rest : List Lexeme) (x : PlainParam) → param_at c ts ≡ Some (x, rest) → IsParam c.printed c.limit ts x rest
   unfolding param_at

@@ -13,3 +13,6 @@ pub mod SoundBlocks
 pub mod Words
 pub mod HeadLaws
 pub mod PrintedHeadLaws
+pub mod StmtHeights
+pub mod UnitSound
+pub mod UnitComplete

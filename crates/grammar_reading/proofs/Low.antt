@@ -1,6 +1,6 @@
 -- What is read isn't too high.
-use Rattle.std.proofs.Common.{◌≡◌, ℕ, zero, suc, ◌≤◌, ◌<◌, List, [], ◌∷◌, drop, Bool, true, false, cond, Option, Some, None, option_and_then, nat_lt, refl, sym, ap, ◌∙◌, subst, arith, ◌⊎◌, inl, inr, ⊎_elim}
-use Rattle.std.proofs.lemmas.Option.{same_Some, some_pair_parts}
+use Rattle.std.proofs.Common.{◌≡◌, ℕ, zero, suc, ◌≤◌, List, [], ◌∷◌, drop, Bool, true, false, cond, Option, Some, None, nat_lt, refl, ap, subst, arith, inl, inr}
+use Rattle.std.proofs.lemmas.Option.{some_pair_parts}
 use Rattle.c_tree.specs.declared.expr.Rel.{Rel}
 use Rattle.c_tree.specs.declared.expr.UnOp.{UnOp}
 use Rattle.c_tree.specs.declared.expr.UnOp.TheVariants.{Neg, Inv}
@@ -29,10 +29,11 @@ module _ (c : Rules) (some : 1 ≤ c.limit) where
     climb_by_low l go go_low left ts rest u None low h = let q = some_pair_parts left u ts rest h in subst (λ w. height w ≤ c.limit) q.0 low
     climb_by_low l go go_low left ts rest u (Some op) low h =
         elim (chosen (nat_lt (level op) l) _ _ _ h) [
-          inl p ↦ (let q = some_pair_parts left u ts rest p.1 in subst (λ w. height w ≤ c.limit) q.0 low)
-        | inr p ↦ (let (x, h1, h2) = bind_is _ (e (suc (level op)) (drop 1 ts)) (u, rest) p.1 in
-            let (y, h3, h4) = bind_is _ (node c (bin op left x.0) x.1) (u, rest) h2 in
-            go_low y.0 y.1 rest u (node_low (bin op left x.0) y.0 x.1 y.1 h3) h4) ]
+          | inl p ↦ (let q = some_pair_parts left u ts rest p.1 in subst (λ w. height w ≤ c.limit) q.0 low)
+          | inr p ↦ (let (x, h1, h2) = bind_is _ (e (suc (level op)) (drop 1 ts)) (u, rest) p.1 in
+              let (y, h3, h4) = bind_is _ (node c (bin op left x.0) x.1) (u, rest) h2 in
+              go_low y.0 y.1 rest u (node_low (bin op left x.0) y.0 x.1 y.1 h3) h4)
+        ]
 
     pub climb_low : (l n : ℕ) (left : PlainExpr) (ts rest : List Lexeme) (u : PlainExpr) → height left ≤ c.limit → climb c e l n left ts ≡ Some (u, rest) → height u ≤ c.limit
     unfolding climb

@@ -1,13 +1,12 @@
 -- Versions, wide declarations and tables: the function against the relation.
-use Rattle.std.proofs.Common.{◌≡◌, ℕ, zero, suc, ◌+◌, ◌<◌, ◌≤◌, List, [], ◌∷◌, ◌++◌, length, Bool, true, false, Option, Some, None, option_and_then, codes, refl, sym, ap, ◌∙◌, subst, arith}
+use Rattle.std.proofs.Common.{◌≡◌, ◌<◌, ◌≤◌, List, [], ◌∷◌, ◌++◌, length, Some, option_and_then, refl, sym, ap, ◌∙◌, subst, arith}
 use Rattle.std.proofs.lemmas.Option.{same_Some, some_pair_parts}
-use Rattle.c_tree.specs.Plain.{Word, PlainExpr, PlainStmt, table}
+use Rattle.c_tree.specs.Plain.{Word, PlainStmt, table}
 use Rattle.c_tree.specs.declared.symbol.Symbol.TheVariants as s
 use Rattle.c_tree.specs.Grammar.Lexemes as t
 use Rattle.c_tree.specs.Grammar.Lexemes.{Lexeme}
 use Rattle.c_tree.specs.Grammar.Expressions.{IsLow}
 use Rattle.grammar_reading.specs.declared.rules.Rules.{Rules}
-use Rattle.grammar_reading.specs.Reading.{Read, expect, number_at}
 use Rattle.grammar_reading.proofs.StepLemmas.{bind_is, expect_is, expect_self}
 use Rattle.grammar_reading.specs.Blocks.{name_at, side}
 use Rattle.grammar_reading.proofs.SoundBlocks.{name_is, this_name_is, this_number_is, low_at}
@@ -46,7 +45,7 @@ wide_sound ts rest x e =
     let (r, h5, h6) = bind_is _ (fixed zero_tokens y.1) (x, rest) h4 in
     let q = some_pair_parts y.0 x r rest h6 in
     let is : ts ≡ t.symbol s.Unsigned ∷ t.symbol s.Int128 ∷ t.name x ∷ (zero_tokens ++ rest) =
-        fixed_is (t.symbol s.Unsigned ∷ t.symbol s.Int128 ∷ []) ts t1 h1 ∙ ap (λ z. t.symbol s.Unsigned ∷ t.symbol s.Int128 ∷ z) (name_is t1 y.1 y.0 h3 ∙ ap (λ v. t.name v ∷ y.1) q.0 ∙ ap (λ z. t.name x ∷ z) (fixed_is zero_tokens y.1 r h5 ∙ ap (λ z. zero_tokens ++ z) q.1)) in
+    fixed_is (t.symbol s.Unsigned ∷ t.symbol s.Int128 ∷ []) ts t1 h1 ∙ ap (λ z. t.symbol s.Unsigned ∷ t.symbol s.Int128 ∷ z) (name_is t1 y.1 y.0 h3 ∙ ap (λ v. t.name v ∷ y.1) q.0 ∙ ap (λ z. t.name x ∷ z) (fixed_is zero_tokens y.1 r h5 ∙ ap (λ z. zero_tokens ++ z) q.1)) in
     subst (λ z. IsWide z x rest) (sym is) (h.wide x)
 
 pub wide_read : (ts rest : List Lexeme) (x : Word) → IsWide ts x rest → wide_at ts ≡ Some (x, rest)
@@ -65,7 +64,7 @@ table_sound c some ts rest x e =
     let low : IsLow c.printed c.limit 1 t3 u.0 (table_tokens y.0 ++ rest) = subst (λ z. IsLow c.printed c.limit 1 t3 u.0 z) (fixed_is (table_tokens y.0) u.1 r h9 ∙ ap (λ z. table_tokens y.0 ++ z) q.1) (low_at c some t3 u.1 u.0 h7) in
     let d : IsTable c.printed c.limit (t.symbol s.Uint64 ∷ t.symbol s.Star ∷ t.name y.0 ∷ (calloc_tokens ++ t3)) (table y.0 u.0) rest = h.made y.0 low in
     let is : ts ≡ t.symbol s.Uint64 ∷ t.symbol s.Star ∷ t.name y.0 ∷ (calloc_tokens ++ t3) =
-        fixed_is (t.symbol s.Uint64 ∷ t.symbol s.Star ∷ []) ts t1 h1 ∙ ap (λ z. t.symbol s.Uint64 ∷ t.symbol s.Star ∷ z) (name_is t1 y.1 y.0 h3 ∙ ap (λ z. t.name y.0 ∷ z) (fixed_is calloc_tokens y.1 t3 h5)) in
+    fixed_is (t.symbol s.Uint64 ∷ t.symbol s.Star ∷ []) ts t1 h1 ∙ ap (λ z. t.symbol s.Uint64 ∷ t.symbol s.Star ∷ z) (name_is t1 y.1 y.0 h3 ∙ ap (λ z. t.name y.0 ∷ z) (fixed_is calloc_tokens y.1 t3 h5)) in
     subst (λ z. IsTable c.printed c.limit z x rest) (sym is) (subst (λ w. IsTable c.printed c.limit (t.symbol s.Uint64 ∷ t.symbol s.Star ∷ t.name y.0 ∷ (calloc_tokens ++ t3)) w rest) q.0 d)
 
 pub table_read : (c : Rules) (ts rest : List Lexeme) (x : PlainStmt) → IsTable c.printed c.limit ts x rest → length ts < c.turns → table_at c ts ≡ Some (x, rest)

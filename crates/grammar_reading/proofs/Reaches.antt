@@ -1,12 +1,11 @@
 -- Whatever is in the grammar is read.
-use Rattle.std.proofs.Common.{◌≡◌, ℕ, zero, suc, ◌+◌, ◌-◌, ◌<◌, ◌≤◌, max, List, [], ◌∷◌, length, drop, Bool, true, false, cond, Option, Some, None, option_and_then, refl, sym, ap, ◌∙◌, subst, arith}
-use Rattle.std.proofs.lemmas.Option.{same_Some, some_pair_parts}
+use Rattle.std.proofs.Common.{◌≡◌, ℕ, zero, suc, ◌-◌, ◌<◌, ◌≤◌, max, List, ◌∷◌, length, Bool, true, cond, Option, Some, None, option_and_then, refl, sym, ap, ◌∙◌, arith}
+use Rattle.std.proofs.lemmas.Option.{some_pair_parts}
 use Rattle.c_tree.specs.declared.expr.Rel.{Rel}
 use Rattle.c_tree.specs.declared.expr.UnOp.{UnOp}
 use Rattle.c_tree.specs.declared.expr.UnOp.TheVariants.{Neg, Inv}
 use Rattle.c_tree.specs.declared.expr.BinOp.{BinOp}
 use Rattle.c_tree.specs.Plain.{Word, PlainExpr, lit, var, cell, un, bin, cast, test, umin, umax, least, greatest, widen, big, PlainExprs, no_exprs, more_exprs}
-use Rattle.c_tree.specs.declared.symbol.Symbol.{Symbol}
 use Rattle.c_tree.specs.declared.symbol.Symbol.TheVariants as s
 use Rattle.c_tree.specs.Grammar.Lexemes as t
 use Rattle.c_tree.specs.Grammar.Lexemes.{Lexeme}
@@ -14,10 +13,10 @@ use Rattle.c_tree.specs.Grammar.Tables.{level, mark, un_mark, rel_mark, Call, ca
 use Rattle.c_tree.specs.Grammar.Expressions as g
 use Rattle.c_tree.specs.Grammar.Expressions.{height, heights, IsExpr, IsCells}
 use Rattle.grammar_reading.specs.declared.rules.Rules.{Rules}
-use Rattle.grammar_reading.specs.Reading.{Read, expect, number_at, node, same, front_op, relation, front_rel, one_cell, cells, cells_by, signed, two, call, wide, wide_parts, grouped, grouped_by, cast_by, word_cast, wide_cast, wide_parts_cast, converted, converted_by, named_by, operand, climb, climb_by, close, closes, paren, paren_by, opens, expr, lower}
-use Rattle.grammar_reading.proofs.StepLemmas.{bind_is, expect_is, expect_self, number_self, fits, no_operator, front_rel_is, relation-mark, level_bounds}
-use Rattle.grammar_reading.proofs.Sound.{op_level, at_most_six, Sound, expr_sound, lower_sound, operand_sound, closes_sound, opens_is, paren_is, from}
-use Rattle.grammar_reading.proofs.Complete.{front_binds, op_le, no_cell, binds-mark, binds-rel, highest, shorter, shorter_cells, call_no_type, un_no_type, no_type, cells_open, climb_stops, climb_goes_on, Reaches, head, run, expr_is, paren_opens, first, finish, opened, inside_read}
+use Rattle.grammar_reading.specs.Reading.{Read, expect, number_at, node, same, front_op, front_rel, one_cell, cells, cells_by, two, call, wide_parts, grouped, grouped_by, cast_by, word_cast, wide_parts_cast, converted_by, named_by, operand, climb, close, closes, paren, opens, expr, lower}
+use Rattle.grammar_reading.proofs.StepLemmas.{bind_is, expect_self, fits, no_operator, front_rel_is, relation-mark, level_bounds}
+use Rattle.grammar_reading.proofs.Sound.{op_level, at_most_six, expr_sound, lower_sound, operand_sound, closes_sound, opens_is, paren_is, from}
+use Rattle.grammar_reading.proofs.Complete.{front_binds, op_le, no_cell, binds-mark, binds-rel, highest, shorter, shorter_cells, call_no_type, un_no_type, no_type, cells_open, climb_stops, climb_goes_on, Reaches, head, expr_is, paren_opens, first, finish, opened, inside_read}
 use Rattle.grammar_reading.proofs.TwoStages.{stages}
 
 -- ---- up to a comparison, and on
@@ -251,14 +250,14 @@ mutual
   reaches {rest = rest} (g.as_word {ts = ts} {u = u} d) c is n l turns room le top ends low =
       let inner = finish c (n - 1) 7 ts rest u (seven rest) (reaches d c is (n - 1) 7 (omega arith) (omega arith) (omega arith) (omega arith) ends (omega arith)) in
       first c n l (t.symbol s.OpenParen ∷ t.symbol s.Uint64 ∷ t.symbol s.CloseParen ∷ ts) rest (cast u) (omega arith) (omega (arith, shorter d)) (cast_front _)
-          (cast_read c (n - 1) ts rest (cast u) (as_word_read c (n - 1) ts rest u (omega (arith, some_height u)) (omega arith) inner low (paren ts) refl))
+      (cast_read c (n - 1) ts rest (cast u) (as_word_read c (n - 1) ts rest u (omega (arith, some_height u)) (omega arith) inner low (paren ts) refl))
   reaches {rest = rest} (g.compared {ts = ts} {after = after} {a = a} {b = b} rel da db) c is n l turns room le top ends low =
       let one = finish c (n - 1) 4 ts (t.symbol (rel_mark rel) ∷ after) a (omega (arith, ap op_level (no_operator rel)))
-          (reaches da c is (n - 1) 4 (omega arith) (omega arith) (omega arith) (omega arith) (omega (arith, binds-rel rel)) (omega arith)) in
+      (reaches da c is (n - 1) 4 (omega arith) (omega arith) (omega arith) (omega arith) (omega (arith, binds-rel rel)) (omega arith)) in
       let two = finish c (n - 1) 4 after (t.symbol s.CloseParen ∷ rest) b (omega arith) (reaches db c is (n - 1) 4 (omega (arith, shorter da)) (omega arith) (omega arith) (omega arith) (omega arith) (omega arith)) in
       let types = no_type da in
       first c n l (t.symbol s.OpenParen ∷ t.symbol s.Uint64 ∷ t.symbol s.CloseParen ∷ t.symbol s.OpenParen ∷ ts) rest (test rel a b) (omega arith) (omega (arith, shorter da, shorter db)) (cast_front _)
-          (cast_read c (n - 1) (t.symbol s.OpenParen ∷ ts) rest (test rel a b) (compared_read c (n - 1) rel ts after rest a b (paren_opens ts types.0 types.1) one two low))
+      (cast_read c (n - 1) (t.symbol s.OpenParen ∷ ts) rest (test rel a b) (compared_read c (n - 1) rel ts after rest a b (paren_opens ts types.0 types.1) one two low))
   reaches {rest = rest} (g.as_wide {ts = ts} {u = u} d) c is n l turns room le top ends low =
       let inner = finish c (n - 1) 7 ts rest u (seven rest) (reaches d c is (n - 1) 7 (omega arith) (omega arith) (omega arith) (omega arith) ends (omega arith)) in
       first c n l (t.symbol s.OpenParen ∷ t.symbol s.Unsigned ∷ t.symbol s.Int128 ∷ t.symbol s.CloseParen ∷ ts) rest (widen u) (omega arith) (omega (arith, shorter d)) (wide_cast_front _) (as_wide_read c (n - 1) ts rest u is inner low)
@@ -278,7 +277,7 @@ mutual
       let one = finish c (n - 1) 1 ts (t.symbol s.Comma ∷ after) a (omega arith) (reaches da c is (n - 1) 1 (omega arith) (omega arith) (omega arith) (omega arith) (omega arith) (omega arith)) in
       let two = finish c (n - 1) 1 after (t.symbol s.CloseParen ∷ rest) b (omega arith) (reaches db c is (n - 1) 1 (omega (arith, shorter da)) (omega arith) (omega arith) (omega arith) (omega arith) (omega arith)) in
       first c n l (t.symbol (call_word k) ∷ t.symbol s.OpenParen ∷ ts) rest (called k a b) (omega arith) (omega (arith, shorter da, shorter db)) (call_no_type k (t.symbol s.OpenParen ∷ ts)).2
-          (call_read c (n - 1) k ts after rest a b (printed_now c p k is may) one two low)
+      (call_read c (n - 1) k ts after rest a b (printed_now c p k is may) one two low)
 
   pub reaches_cells : {p : Bool} {ts rest : List Lexeme} {us : PlainExprs} → IsCells p ts us rest → (c : Rules) → c.printed ≡ p → (n k : ℕ) → length ts < c.turns → heights us ≤ n → length ts ≤ k → front_binds rest ≤ 7 → suc (heights us) ≤ c.limit → cells c (expr c n) k ts ≡ Some (us, rest)
   reaches_cells {rest = rest} (g.last {ts = ts} {u = u} d) c is n k few room turns ends low =

@@ -1,21 +1,21 @@
 -- What is read is in the grammar.
-use Rattle.std.proofs.Common.{◌≡◌, ℕ, zero, suc, ◌+◌, ◌-◌, ◌<◌, ◌≤◌, List, [], ◌∷◌, length, drop, Bool, true, false, cond, Option, Some, None, option_and_then, nat_lt, nat_le, refl, sym, ap, ◌∙◌, subst, arith, ◌⊎◌, inl, inr, ⊎_elim, zero-add}
-use Rattle.std.proofs.lemmas.Option.{same_Some, cond_some, some_pair_parts}
+use Rattle.std.proofs.Common.{◌≡◌, ℕ, zero, suc, ◌+◌, ◌-◌, ◌<◌, ◌≤◌, List, [], ◌∷◌, drop, Bool, true, false, cond, Option, Some, None, nat_lt, refl, sym, ap, ◌∙◌, subst, arith, inl, inr, zero-add}
+use Rattle.std.proofs.lemmas.Option.{same_Some, some_pair_parts}
 use Rattle.std.proofs.lemmas.Bool.{ltb-true, ltb-false}
 use Rattle.c_tree.specs.declared.expr.Rel.{Rel}
 use Rattle.c_tree.specs.declared.expr.UnOp.{UnOp}
 use Rattle.c_tree.specs.declared.expr.UnOp.TheVariants.{Neg, Inv}
 use Rattle.c_tree.specs.declared.expr.BinOp.{BinOp}
-use Rattle.c_tree.specs.Plain.{Word, PlainExpr, lit, var, cell, un, bin, cast, test, umin, umax, least, greatest, widen, big, PlainExprs, no_exprs, more_exprs}
+use Rattle.c_tree.specs.Plain.{Word, PlainExpr, lit, var, cell, un, bin, cast, test, widen, big, PlainExprs, no_exprs, more_exprs}
 use Rattle.c_tree.specs.declared.symbol.Symbol.{Symbol}
 use Rattle.c_tree.specs.declared.symbol.Symbol.TheVariants as s
 use Rattle.c_tree.specs.Grammar.Lexemes as t
 use Rattle.c_tree.specs.Grammar.Lexemes.{Lexeme}
-use Rattle.c_tree.specs.Grammar.Tables.{level, mark, un_mark, rel_mark, Call, call_min, call_max, call_least, call_greatest, call_word, called, allowed}
+use Rattle.c_tree.specs.Grammar.Tables.{level, un_mark, Call, call_min, call_max, call_least, call_greatest, call_word, called, allowed}
 use Rattle.c_tree.specs.Grammar.Expressions as g
 use Rattle.c_tree.specs.Grammar.Expressions.{IsExpr, IsCells}
 use Rattle.grammar_reading.specs.declared.rules.Rules.{Rules}
-use Rattle.grammar_reading.specs.Reading.{Read, expect, number_at, node, front_op, front_rel, one_cell, cells, cells_by, signed, applied, two, call, wide, wide_parts, grouped, grouped_by, cast_by, word_cast, wide_cast, wide_parts_cast, converted, converted_by, named_by, operand, climb, climb_by, close, closes, paren, paren_by, opens, opens_by, expr, lower}
+use Rattle.grammar_reading.specs.Reading.{Read, expect, number_at, node, front_op, front_rel, one_cell, cells, cells_by, signed, applied, two, call, wide, wide_parts, grouped, grouped_by, cast_by, word_cast, wide_cast, wide_parts_cast, converted_by, named_by, operand, climb, climb_by, close, closes, paren, paren_by, opens, opens_by, expr, lower}
 use Rattle.grammar_reading.proofs.StepLemmas.{bind_is, chosen, expect_is, number_is, node_is, front_op_is, front_rel_is, level_bounds}
 
 abbrev pub op_level : Option BinOp → ℕ
@@ -103,20 +103,21 @@ module _ (c : Rules) (e : ℕ → List Lexeme → Read PlainExpr) (sound : Sound
       (moved c.printed l start ts rest left u q.0 q.1 (loosen c.printed j l start ts left le d), omega arith)
   climb_by_sound l go pos go_sound j left start ts rest u (Some op) is le top d below h =
       elim (chosen (nat_lt (level op) l) _ _ _ h) [
-        inl p ↦ (let q = some_pair_parts left u ts rest p.1 in
-          let same : op_level (front_op rest) ≡ level op = ap (λ z. op_level (front_op z)) (sym q.1) ∙ ap op_level is in
-          let lt = ltb-true (level op) l p.0 in
-          (moved c.printed l start ts rest left u q.0 q.1 (loosen c.printed j l start ts left le d), omega arith))
-      | inr p ↦ (let (x, h1, h2) = bind_is _ (e (suc (level op)) (drop 1 ts)) (u, rest) p.1 in
-          let (y, h3, h4) = bind_is _ (node c (bin op left x.0) x.1) (u, rest) h2 in
-          let bounds = level_bounds op in
-          let ge = ltb-false (level op) l p.0 in
-          let right = sound.found (suc (level op)) (drop 1 ts) x.1 x.0 (omega arith) (omega arith) h1 in
-          let q = node_is c (bin op left x.0) y.0 x.1 y.1 h3 in
-          let here = to c.printed (level op) start ts _ left (front_op_is ts op is) (loosen c.printed j (level op) start ts left below d) in
-          let whole = moved c.printed (level op) start x.1 y.1 _ y.0 q.0 q.1 (g.binary op here right.0) in
-          let next : op_level (front_op y.1) ≤ level op = omega (arith, right.1, ap (λ z. op_level (front_op z)) q.1) in
-          go_sound (level op) y.0 start y.1 rest u ge (omega arith) whole next h4) ]
+        | inl p ↦ (let q = some_pair_parts left u ts rest p.1 in
+            let same : op_level (front_op rest) ≡ level op = ap (λ z. op_level (front_op z)) (sym q.1) ∙ ap op_level is in
+            let lt = ltb-true (level op) l p.0 in
+            (moved c.printed l start ts rest left u q.0 q.1 (loosen c.printed j l start ts left le d), omega arith))
+        | inr p ↦ (let (x, h1, h2) = bind_is _ (e (suc (level op)) (drop 1 ts)) (u, rest) p.1 in
+            let (y, h3, h4) = bind_is _ (node c (bin op left x.0) x.1) (u, rest) h2 in
+            let bounds = level_bounds op in
+            let ge = ltb-false (level op) l p.0 in
+            let right = sound.found (suc (level op)) (drop 1 ts) x.1 x.0 (omega arith) (omega arith) h1 in
+            let q = node_is c (bin op left x.0) y.0 x.1 y.1 h3 in
+            let here = to c.printed (level op) start ts _ left (front_op_is ts op is) (loosen c.printed j (level op) start ts left below d) in
+            let whole = moved c.printed (level op) start x.1 y.1 _ y.0 q.0 q.1 (g.binary op here right.0) in
+            let next : op_level (front_op y.1) ≤ level op = omega (arith, right.1, ap (λ z. op_level (front_op z)) q.1) in
+            go_sound (level op) y.0 start y.1 rest u ge (omega arith) whole next h4)
+      ]
 
   pub climb_sound : (l n : ℕ) → 1 ≤ l → (j : ℕ) (left : PlainExpr) (start ts rest : List Lexeme) (u : PlainExpr) → l ≤ j → j ≤ 7 → IsExpr c.printed j start left ts → op_level (front_op ts) ≤ j → climb c e l n left ts ≡ Some (u, rest) → IsExpr c.printed l start u rest × (op_level (front_op rest) < l)
   unfolding climb
@@ -225,7 +226,7 @@ module _ (c : Rules) (e : ℕ → List Lexeme → Read PlainExpr) (sound : Sound
       let (inner, h5, h6) = bind_is _ (expect s.CloseParen close) (u, rest) h4 in
       let (x, h7, h8) = bind_is _ (e 7 inner) (u, rest) h6 in
       let p : ts ≡ t.symbol s.Unsigned ∷ t.symbol s.Int128 ∷ t.symbol s.CloseParen ∷ inner =
-          expect_is s.Unsigned ts doubled h1 ∙ ap (λ z. t.symbol s.Unsigned ∷ z) (expect_is s.Int128 doubled close h3 ∙ ap (λ z. t.symbol s.Int128 ∷ z) (expect_is s.CloseParen close inner h5)) in
+      expect_is s.Unsigned ts doubled h1 ∙ ap (λ z. t.symbol s.Unsigned ∷ z) (expect_is s.Int128 doubled close h3 ∙ ap (λ z. t.symbol s.Int128 ∷ z) (expect_is s.CloseParen close inner h5)) in
       let d = at_printed c.printed 7 _ x.1 (widen x.0) is (g.as_wide (in_printed c.printed 7 inner x.1 x.0 is (at_seven inner x h7))) in
       from c.printed 7 _ (t.symbol s.OpenParen ∷ ts) rest u (ap (λ z. t.symbol s.OpenParen ∷ z) p) (built 7 _ (widen x.0) u x.1 rest h8 d)
 
@@ -295,17 +296,20 @@ module _ (c : Rules) (e : ℕ → List Lexeme → Read PlainExpr) (sound : Sound
 
 mutual
   unfolding expr
+
   pub lower_sound : (c : Rules) (depth : ℕ) → Sound c (lower c depth)
   lower_sound c zero = record { found = λ l ts rest u pos top h. absurd (let no : ⊥ = cc in no) }
   lower_sound c (suc depth) = expr_sound c depth
 
   pub expr_sound : (c : Rules) (depth : ℕ) → Sound c (expr c depth)
   expr_sound c zero = record { found = λ l ts rest u pos top h. absurd (let no : ⊥ = cc in no) }
-  expr_sound c (suc depth) = record { found = λ l ts rest u pos top h.
-      let e = expr c depth in
-      let sound = expr_sound c depth in
-      let (x, h1, h2) = bind_is _ (operand c e (lower c depth) (opens ts).1) (u, rest) h in
-      let (y, h3, h4) = bind_is _ (closes c e (opens ts).0 x.0 x.1) (u, rest) h2 in
-      let first = operand_sound c e sound (lower c depth) (lower_sound c depth) (opens ts).1 x.1 x.0 h1 in
-      let whole = from c.printed 7 _ ts y.1 y.0 (opens_is ts) (closes_sound c e sound (opens ts).0 (opens ts).1 x.1 y.1 x.0 y.0 first h3) in
-      climb_sound c e sound l c.turns pos 7 y.0 ts y.1 rest u top (omega arith) whole (omega (arith, at_most_six (front_op y.1))) h4 }
+  expr_sound c (suc depth) = record {
+    found = λ l ts rest u pos top h.
+        let e = expr c depth in
+        let sound = expr_sound c depth in
+        let (x, h1, h2) = bind_is _ (operand c e (lower c depth) (opens ts).1) (u, rest) h in
+        let (y, h3, h4) = bind_is _ (closes c e (opens ts).0 x.0 x.1) (u, rest) h2 in
+        let first = operand_sound c e sound (lower c depth) (lower_sound c depth) (opens ts).1 x.1 x.0 h1 in
+        let whole = from c.printed 7 _ ts y.1 y.0 (opens_is ts) (closes_sound c e sound (opens ts).0 (opens ts).1 x.1 y.1 x.0 y.0 first h3) in
+        climb_sound c e sound l c.turns pos 7 y.0 ts y.1 rest u top (omega arith) whole (omega (arith, at_most_six (front_op y.1))) h4;
+  }

@@ -1,26 +1,26 @@
 -- What is read as a statement is one.
-use Rattle.std.proofs.Common.{◌≡◌, ℕ, zero, suc, ◌+◌, ◌^◌, ◌<◌, ◌≤◌, List, [], ◌∷◌, drop, Bool, true, false, cond, Option, Some, None, option_and_then, ◌==◌, bytes_eq, refl, sym, ap, ◌∙◌, subst, arith}
+use Rattle.std.proofs.Common.{◌≡◌, ℕ, zero, suc, ◌+◌, ◌^◌, ◌<◌, ◌≤◌, List, [], ◌∷◌, drop, Bool, true, false, cond, Option, Some, None, ◌==◌, bytes_eq, refl, sym, ap, ◌∙◌, subst, arith}
 use Rattle.std.proofs.lemmas.Option.{same_Some, cond_some, some_pair_parts}
 use Rattle.std.proofs.lemmas.Bool.{eqb-true}
 use Rattle.c_tree.specs.declared.expr.Rel.{Rel}
 use Rattle.c_tree.specs.declared.expr.BinOp.{BinOp}
-use Rattle.c_tree.specs.Plain.{Word, PlainExpr, var, cell, PlainTest, PlainStmt, loop, choice, assign, check, PlainStmts, no_stmts, more_stmts}
+use Rattle.c_tree.specs.Plain.{Word, PlainExpr, var, cell, PlainTest, loop, choice, assign, check, PlainStmts, no_stmts, more_stmts}
 use Rattle.c_tree.specs.declared.symbol.Symbol.{Symbol}
 use Rattle.c_tree.specs.declared.symbol.Symbol.TheVariants as s
 use Rattle.c_tree.specs.Grammar.Lexemes as t
 use Rattle.c_tree.specs.Grammar.Lexemes.{Lexeme}
 use Rattle.c_tree.specs.Grammar.Tables.{rel_mark}
-use Rattle.c_tree.specs.Grammar.Expressions.{IsLow, IsCells, height}
+use Rattle.c_tree.specs.Grammar.Expressions.{IsLow}
 use Rattle.c_tree.specs.Grammar.Conditions.{IsCond}
 use Rattle.c_tree.specs.Grammar.Statements as k
 use Rattle.c_tree.specs.Grammar.Statements.{chain, one, set_op, bounds, IsStep, IsPlace, IsStmt, IsStmts}
 use Rattle.grammar_reading.specs.declared.rules.Rules.{Rules}
-use Rattle.grammar_reading.specs.Reading.{Read, expect, number_at, front_rel, named, named_by, cells, node, expr, deepest, conds}
+use Rattle.grammar_reading.specs.Reading.{Read, expect, number_at, front_rel, named_by, cells, expr, deepest, conds}
 use Rattle.grammar_reading.proofs.StepLemmas.{bind_is, expect_is, number_is, front_rel_is, node_is}
 use Rattle.grammar_reading.proofs.Sound.{expr_sound, cells_sound}
 use Rattle.grammar_reading.proofs.Low.{expr_low}
 use Rattle.grammar_reading.proofs.CondSound.{cond_sound}
-use Rattle.grammar_reading.specs.Blocks.{name_at, this_name, this_number, set_at, bound_at, step_on, step_by, step_at, array_below, side, place, assign_at, for_start, for_bound, for_step, check_start, check_middle, check_front, check_end, for_at, else_by, if_plain, if_by, if_open, if_at, by_sign, stmt_at, closing, inside_by, inside, body_by, body, simple}
+use Rattle.grammar_reading.specs.Blocks.{name_at, this_name, this_number, set_at, bound_at, step_on, step_by, step_at, array_below, side, place, assign_at, for_start, for_bound, for_step, check_start, check_middle, check_front, check_end, for_at, else_by, if_plain, if_by, if_at, by_sign, stmt_at, inside_by, inside, body_by, body, simple}
 use Rattle.grammar_reading.proofs.Words.{bytes_is}
 
 -- ---- names, numbers and marks
@@ -152,7 +152,7 @@ module _ (c : Rules) (some : 1 ≤ c.limit) where
       let (t6, h11, h12) = bind_is _ (expect s.Semicolon lo.1) (x, rest) h10 in
       let q = some_pair_parts (v.0, lo.0) x t6 rest h12 in
       let is : ts ≡ t.symbol s.OpenParen ∷ t.symbol s.Int64 ∷ t.name v.0 ∷ t.symbol s.Assign ∷ t4 =
-          expect_is s.OpenParen ts t1 h1 ∙ ap (λ z. t.symbol s.OpenParen ∷ z) (expect_is s.Int64 t1 t2 h3 ∙ ap (λ z. t.symbol s.Int64 ∷ z) (name_is t2 v.1 v.0 h5 ∙ ap (λ z. t.name v.0 ∷ z) (expect_is s.Assign v.1 t4 h7))) in
+      expect_is s.OpenParen ts t1 h1 ∙ ap (λ z. t.symbol s.OpenParen ∷ z) (expect_is s.Int64 t1 t2 h3 ∙ ap (λ z. t.symbol s.Int64 ∷ z) (name_is t2 v.1 v.0 h5 ∙ ap (λ z. t.name v.0 ∷ z) (expect_is s.Assign v.1 t4 h7))) in
       let d = low_to t4 lo.1 (t.symbol s.Semicolon ∷ rest) lo.0 (expect_is s.Semicolon lo.1 t6 h11 ∙ ap (λ z. t.symbol s.Semicolon ∷ z) q.1) (low_at t4 lo.1 lo.0 h9) in
       subst (λ (y : Word × PlainExpr). (inner : List Lexeme) × (ts ≡ t.symbol s.OpenParen ∷ t.symbol s.Int64 ∷ t.name y.0 ∷ t.symbol s.Assign ∷ inner) × IsLow c.printed c.limit 1 inner y.1 (t.symbol s.Semicolon ∷ rest)) q.0 (t4, is, d)
 
@@ -168,7 +168,7 @@ module _ (c : Rules) (some : 1 ≤ c.limit) where
       let b = bound_is t1 rel.1 rel.0 h3 in
       let d = low_to rel.1 hi.1 (t.symbol s.Semicolon ∷ rest) hi.0 (expect_is s.Semicolon hi.1 t4 h7 ∙ ap (λ z. t.symbol s.Semicolon ∷ z) q.1) (low_at rel.1 hi.1 hi.0 h5) in
       subst (λ (y : Rel × PlainExpr). (inner : List Lexeme) × (ts ≡ t.name v ∷ t.symbol (rel_mark y.0) ∷ inner) × (bounds y.0 ≡ true) × IsLow c.printed c.limit 1 inner y.1 (t.symbol s.Semicolon ∷ rest)) q.0
-        (rel.1, this_name_is v ts t1 h1 ∙ ap (λ z. t.name v ∷ z) b.0, b.1, d)
+      (rel.1, this_name_is v ts t1 h1 ∙ ap (λ z. t.name v ∷ z) b.0, b.1, d)
 
   step_sound : (v : Word) (ts rest : List Lexeme) → for_step c v ts ≡ Some rest → IsStep v ts (t.symbol s.CloseParen ∷ rest)
   unfolding for_step
@@ -190,7 +190,7 @@ module _ (c : Rules) (some : 1 ≤ c.limit) where
       let q = some_pair_parts v.0 x t6 rest h12 in
       name_is ts v.1 v.0 h1 ∙ ap (λ z. t.name z ∷ v.1) q.0
       ∙ ap (λ z. t.name x ∷ z) (expect_is s.GreaterEqual v.1 t2 h3 ∙ ap (λ z. t.symbol s.GreaterEqual ∷ z) (expect_is s.OpenParen t2 t3 h5 ∙ ap (λ z. t.symbol s.OpenParen ∷ z) (expect_is s.Uint64 t3 t4 h7
-        ∙ ap (λ z. t.symbol s.Uint64 ∷ z) (expect_is s.CloseParen t4 t5 h9 ∙ ap (λ z. t.symbol s.CloseParen ∷ z) (expect_is s.OpenParen t5 t6 h11 ∙ ap (λ z. t.symbol s.OpenParen ∷ z) q.1)))))
+      ∙ ap (λ z. t.symbol s.Uint64 ∷ z) (expect_is s.CloseParen t4 t5 h9 ∙ ap (λ z. t.symbol s.CloseParen ∷ z) (expect_is s.OpenParen t5 t6 h11 ∙ ap (λ z. t.symbol s.OpenParen ∷ z) q.1)))))
 
   pub check_middle_sound : (ts rest : List Lexeme) (u : PlainExpr) → check_middle c ts ≡ Some (u, rest) → IsLow c.printed c.limit 1 ts u (t.symbol s.CloseParen ∷ t.symbol s.CloseParen ∷ t.symbol s.OpenBrace ∷ t.symbol s.Return ∷ rest)
   unfolding check_middle
@@ -202,8 +202,8 @@ module _ (c : Rules) (some : 1 ≤ c.limit) where
       let (t5, h9, h10) = bind_is _ (expect s.Return t4) (u, rest) h8 in
       let q = some_pair_parts v.0 u t5 rest h10 in
       let e : v.1 ≡ t.symbol s.CloseParen ∷ t.symbol s.CloseParen ∷ t.symbol s.OpenBrace ∷ t.symbol s.Return ∷ rest =
-          expect_is s.CloseParen v.1 t2 h3 ∙ ap (λ z. t.symbol s.CloseParen ∷ z) (expect_is s.CloseParen t2 t3 h5 ∙ ap (λ z. t.symbol s.CloseParen ∷ z) (expect_is s.OpenBrace t3 t4 h7
-            ∙ ap (λ z. t.symbol s.OpenBrace ∷ z) (expect_is s.Return t4 t5 h9 ∙ ap (λ z. t.symbol s.Return ∷ z) q.1))) in
+      expect_is s.CloseParen v.1 t2 h3 ∙ ap (λ z. t.symbol s.CloseParen ∷ z) (expect_is s.CloseParen t2 t3 h5 ∙ ap (λ z. t.symbol s.CloseParen ∷ z) (expect_is s.OpenBrace t3 t4 h7
+      ∙ ap (λ z. t.symbol s.OpenBrace ∷ z) (expect_is s.Return t4 t5 h9 ∙ ap (λ z. t.symbol s.Return ∷ z) q.1))) in
       subst (λ w. IsLow c.printed c.limit 1 ts w (t.symbol s.CloseParen ∷ t.symbol s.CloseParen ∷ t.symbol s.OpenBrace ∷ t.symbol s.Return ∷ rest)) q.0 (low_to ts v.1 _ v.0 e (low_at ts v.1 v.0 h1))
 
   -- ---- over the reading of a part
@@ -279,7 +279,7 @@ module _ (c : Rules) (some : 1 ≤ c.limit) where
         let q = some_pair_parts (one (check x.0 x.1 a)) us t3 rest j8 in
         let b = array_is 48 n.0 a j7 in
         let end : u.1 ≡ t.number (2 ^ (16 + a)) ∷ t.symbol s.Semicolon ∷ t.symbol s.CloseBrace ∷ t3 =
-            p.1 ∙ number_is after n.1 n.0 j1 ∙ ap (λ z. t.number z ∷ n.1) b.0 ∙ ap (λ z. t.number (2 ^ (16 + a)) ∷ z) (expect_is s.Semicolon n.1 t2 j3 ∙ ap (λ z. t.symbol s.Semicolon ∷ z) (expect_is s.CloseBrace t2 t3 j5)) in
+        p.1 ∙ number_is after n.1 n.0 j1 ∙ ap (λ z. t.number z ∷ n.1) b.0 ∙ ap (λ z. t.number (2 ^ (16 + a)) ∷ z) (expect_is s.Semicolon n.1 t2 j3 ∙ ap (λ z. t.symbol s.Semicolon ∷ z) (expect_is s.CloseBrace t2 t3 j5)) in
         let low = low_to v.1 _ _ u.0 (ap (λ z. t.symbol s.CloseParen ∷ t.symbol s.CloseParen ∷ t.symbol s.OpenBrace ∷ t.symbol s.Return ∷ z) end) (check_middle_sound v.1 u.1 u.0 h3) in
         let at = subst (λ b. IsLow b c.limit 1 v.1 u.0 (t.symbol s.CloseParen ∷ t.symbol s.CloseParen ∷ t.symbol s.OpenBrace ∷ t.symbol s.Return ∷ t.number (2 ^ (16 + a)) ∷ t.symbol s.Semicolon ∷ t.symbol s.CloseBrace ∷ t3)) printed low in
         let d = as_printed _ (one (check v.0 u.0 a)) t3 printed (k.checked v.0 a b.1 at) in
@@ -358,7 +358,7 @@ module _ (c : Rules) (some : 1 ≤ c.limit) where
             let (us, e, f) = on_sound held (chain acc x.0) ws x.1 rest j2 in
             (chain x.0 us, e ∙ chain_again acc x.0 us, fill_more (go_sound ts x.1 x.0 j1).is f)
 
-    body_sound : (n : ℕ) (ts rest : List Lexeme) (us : PlainStmts) (r : Option (List Lexeme)) → expect s.OpenBrace ts ≡ r → body_by go n ts r ≡ Some (us, rest) → Found c ts us rest
+    pub body_sound : (n : ℕ) (ts rest : List Lexeme) (us : PlainStmts) (r : Option (List Lexeme)) → expect s.OpenBrace ts ≡ r → body_by go n ts r ≡ Some (us, rest) → Found c ts us rest
     body_sound n ts rest us None is h = go_sound ts rest us h
     body_sound n ts rest us (Some inner) is h =
         let (vs, e, f) = inside_sound n 0 no_stmts us inner rest h in
@@ -376,3 +376,12 @@ module _ (c : Rules) (some : 1 ≤ c.limit) where
       record { open_end = false; is = subst (λ z. IsStmt c.printed c.limit false z us rest) (sym (expect_is s.Semicolon ts r h1)) (subst (λ v. IsStmt c.printed c.limit false (t.symbol s.Semicolon ∷ r) v rest) q.0 (subst (λ z. IsStmt c.printed c.limit false (t.symbol s.Semicolon ∷ r) no_stmts z) q.1 d)); no_else = λ e. absurd (let no : ⊥ = cc in no) }
   simple_sound (suc depth) ts rest us h =
       stmt_sound (body (simple c depth) c.turns) (λ zs r vs j. body_sound (simple c depth) (simple_sound depth) c.turns zs r vs (expect s.OpenBrace zs) refl j) ts rest us h
+
+  -- the statements of a whole block, behind its brace
+  pub inside_is_stmts : (depth n : ℕ) (ts rest : List Lexeme) (us : PlainStmts) → inside (simple c depth) n 0 no_stmts ts ≡ Some (us, rest) → IsStmts c.printed c.limit ts us (t.symbol s.CloseBrace ∷ rest)
+  inside_is_stmts depth n ts rest us h =
+      let (vs, e, f) = inside_sound (simple c depth) (simple_sound depth) n 0 no_stmts us ts rest h in
+      subst (λ w. IsStmts c.printed c.limit ts w (t.symbol s.CloseBrace ∷ rest)) (sym e) (filled f)
+    where
+      filled : {zs : List Lexeme} {ws : PlainStmts} → Fills (simple c depth) (simple_sound depth) 0 zs ws rest → IsStmts c.printed c.limit zs ws (t.symbol s.CloseBrace ∷ rest)
+      filled (done d) = d

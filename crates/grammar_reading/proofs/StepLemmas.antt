@@ -1,5 +1,5 @@
 -- The steps that every rule is made of, taken apart.
-use Rattle.std.proofs.Common.{◌≡◌, ℕ, zero, suc, ◌+◌, ◌-◌, ◌<◌, ◌≤◌, List, [], ◌∷◌, length, drop, Bool, true, false, cond, Option, Some, None, option_and_then, nat_lt, nat_le, refl, sym, ap, ◌∙◌, subst, arith, ◌⊎◌, inl, inr}
+use Rattle.std.proofs.Common.{◌≡◌, ℕ, ◌≤◌, List, [], ◌∷◌, drop, Bool, true, false, cond, Option, Some, None, option_and_then, nat_le, refl, ap, ◌∙◌, arith, ◌⊎◌, inl, inr}
 use Rattle.std.proofs.lemmas.Option.{same_Some, cond_some, some_pair_parts}
 use Rattle.std.proofs.lemmas.Bool.{leb-true, le-leb}
 use denote.Enum.Bare.{same_true, true_same}
@@ -7,7 +7,7 @@ use Rattle.c_tree.specs.declared.expr.Rel.{Rel}
 use Rattle.c_tree.specs.declared.expr.Rel.TheVariants as r
 use Rattle.c_tree.specs.declared.expr.BinOp.{BinOp}
 use Rattle.c_tree.specs.declared.expr.BinOp.TheVariants as o
-use Rattle.c_tree.specs.Plain.{PlainExpr, PlainExprs}
+use Rattle.c_tree.specs.Plain.{PlainExpr}
 use Rattle.c_tree.specs.contracts.symbol.Symbol.{the_type}
 use Rattle.c_tree.specs.declared.symbol.Symbol.{Symbol}
 use Rattle.c_tree.specs.declared.symbol.Symbol.TheVariants as s
@@ -16,7 +16,7 @@ use Rattle.c_tree.specs.Grammar.Lexemes.{Lexeme}
 use Rattle.c_tree.specs.Grammar.Tables.{level, mark, rel_mark}
 use Rattle.c_tree.specs.Grammar.Expressions.{height}
 use Rattle.grammar_reading.specs.declared.rules.Rules.{Rules}
-use Rattle.grammar_reading.specs.Reading.{Read, same, expect, number_at, node, operator, front_op, relation, front_rel}
+use Rattle.grammar_reading.specs.Reading.{same, expect, number_at, node, operator, front_op, relation, front_rel}
 
 pub bind_is : {A B : Type 0} (f : A → Option B) (o : Option A) (y : B) → option_and_then f o ≡ Some y → (x : A) × (o ≡ Some x) × (f x ≡ Some y)
 bind_is f None y e = absurd (let no : ⊥ = cc in no)

@@ -1,11 +1,11 @@
 -- The function against the grammar.
-use Rattle.std.proofs.Common.{◌≡◌, ℕ, suc, ◌<◌, ◌≤◌, List, [], ◌∷◌, length, Option, Some, None, option_and_then, refl, sym, ap, ◌∙◌, subst, arith, Bool, true, false}
+use Rattle.std.proofs.Common.{◌≡◌, ◌<◌, ◌≤◌, List, [], ◌∷◌, length, Some, option_and_then, refl, ap, subst, arith, Bool}
 use Rattle.std.proofs.lemmas.Option.{same_Some}
 use Rattle.c_tree.specs.Plain.{PlainExpr, PlainTest}
 use Rattle.c_tree.specs.Grammar.Lexemes.{Lexeme}
 use Rattle.c_tree.specs.Grammar.Expressions.{IsExpr, IsLow, height}
 use Rattle.grammar_reading.specs.declared.rules.Rules.{Rules}
-use Rattle.grammar_reading.specs.Reading.{Read, all_read, deepest, expr, whole, whole_cond, conds, expect}
+use Rattle.grammar_reading.specs.Reading.{all_read, deepest, expr, whole, whole_cond, conds, expect}
 use Rattle.grammar_reading.proofs.StepLemmas.{bind_is}
 use Rattle.grammar_reading.proofs.Sound.{expr_sound}
 use Rattle.grammar_reading.proofs.Complete.{finish}

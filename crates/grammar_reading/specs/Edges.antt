@@ -1,5 +1,5 @@
 -- Token lists at the edge of the grammar.
-use Rattle.std.specs.Prelude.{ℕ, Bool, false, List, [], ◌∷◌, codes}
+use Rattle.std.specs.Prelude.{false, List, [], ◌∷◌, codes}
 use Rattle.c_tree.specs.declared.expr.Rel.TheVariants.{Lt}
 use Rattle.c_tree.specs.declared.expr.BinOp.TheVariants.{Add}
 use Rattle.c_tree.specs.Plain.{PlainExpr, lit, var, bin, test}

@@ -1,5 +1,5 @@
 -- Reading the parts of a unit's head, and the tables of a printed text, as functions.
-use Rattle.std.specs.Prelude.{ℕ, zero, suc, ℤ, pos, ◌^◌, nat_lt, nat_le, Bool, true, false, List, [], ◌∷◌, Option, Some, None, option_and_then, codes, if◌then◌else◌}
+use Rattle.std.specs.Prelude.{ℕ, zero, suc, ℤ, pos, ◌^◌, nat_lt, nat_le, Bool, true, false, List, [], ◌∷◌, Option, Some, None, codes, if◌then◌else◌}
 use Rattle.c_tree.specs.Plain.{Word, PlainExpr, PlainExprs, no_exprs, more_exprs, PlainStmt, table, PlainParam, int_param, array_param}
 use Rattle.c_tree.specs.declared.symbol.Symbol.TheVariants as s
 use Rattle.c_tree.specs.Grammar.Lexemes as t

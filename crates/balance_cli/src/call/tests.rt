@@ -4,6 +4,7 @@ use super::balance;
 use crate::status::Status;
 use edge::{ByteList, FileList, MemShelf, MemSink, NamedFile, Numbers};
 use std::alloc::{AllocError, Global};
+use std::process::Abort;
 use std::test::Fail;
 
 const SHIFT: &str = "#include <stdint.h>\n\
@@ -27,17 +28,75 @@ for (int64_t i = 0; i < n; i++)\n    \
 A[i + 1] = A[i] + 1;\n\
 }\n";
 
-// How the printed text of `SHIFT` begins.
-const FIRST_LINES: &str = "#include <stdint.h>\n\
-#include <stdlib.h>\n\
-static inline uint64_t umin(uint64_t a, uint64_t b) { return a < b ? a : b; }\n\
-static inline uint64_t umax(uint64_t a, uint64_t b) { return a < b ? b : a; }\n\
-static inline int64_t bal_min(int64_t a, int64_t b) { return a < b ? a : b; }\n\
-static inline int64_t bal_max(int64_t a, int64_t b) { return a < b ? b : a; }\n\
-static inline unsigned __int128 bal_wide(uint64_t h, uint64_t l) { return (unsigned __int128)h << 64 | l; }\n\
-#pragma balance version 1\n\
-#pragma balance range n 1 1000\n\
-uint64_t bal_fn_shift(int64_t n, uint64_t A[n]) {\n";
+// The unit of `SHIFT`, spelled otherwise.
+const SPELLED: &str = "/* a shift */ # include <stdint.h> // and no more\n\
+\t#pragma\tbalance range n 0x1 1000u // of cells\r\n\
+void shift(int64_t n, uint64_t A[(n)])\n{\n  \
+{;} for (int64_t i = 0uLL; i < n - 1; ++i) {\n    \
+{ A[(i) + 1ull] = ((A[i])) + 0X1; }\n  \
+}\n\
+}\n";
+
+// The printed text of `SHIFT`, as the rules of docs/FORMATS.md give it. It stands in examples/shift.guarded.c too.
+const PRINTED: &str = "\
+#include <stdint.h>
+#include <stdlib.h>
+static inline uint64_t umin(uint64_t a, uint64_t b) { return a < b ? a : b; }
+static inline uint64_t umax(uint64_t a, uint64_t b) { return a < b ? b : a; }
+static inline int64_t bal_min(int64_t a, int64_t b) { return a < b ? a : b; }
+static inline int64_t bal_max(int64_t a, int64_t b) { return a < b ? b : a; }
+static inline unsigned __int128 bal_wide(uint64_t h, uint64_t l) { return (unsigned __int128)h << 64 | l; }
+#pragma balance version 1
+#pragma balance range n 1 1000
+uint64_t bal_fn_shift(int64_t n, uint64_t A[n]) {
+  uint64_t bal_r0 = 0ull;
+  uint64_t bal_w = 0ull;
+  uint64_t bal_c0 = 0ull;
+  uint64_t bal_c1 = 0ull;
+  unsigned __int128 bal_k = 0;
+  unsigned __int128 bal_def0 = 0;
+  unsigned __int128 bal_use0 = 0;
+  for (int64_t bal_i0 = 0; bal_i0 < n; bal_i0++) {
+    bal_r0 = A[bal_i0];
+    bal_c0 = 1ull;
+    bal_c1 = 0ull;
+    for (int64_t bal_l0 = 0; bal_l0 < n - 1; bal_l0++) {
+      if (bal_l0 == bal_i0) {
+        bal_c1 += bal_c0;
+      }
+      if (bal_l0 + 1 == bal_i0) {
+        bal_c0 = 0ull;
+      }
+    }
+    bal_k = (unsigned __int128)bal_c1;
+    bal_def0 += (unsigned __int128)bal_r0 * bal_k;
+  }
+#pragma balance begin
+  for (int64_t i = 0; i < n - 1; i++) {
+    bal_r0 = A[i];
+    bal_use0 += (unsigned __int128)bal_r0;
+    bal_w = bal_r0 + 1ull;
+    A[i + 1] = bal_w;
+    bal_c0 = 0ull;
+    bal_c1 = 0ull;
+    for (int64_t bal_l0 = 0; bal_l0 < n - 1; bal_l0++) {
+      if (bal_l0 == i + 1) {
+        bal_c1 += bal_c0;
+      }
+      if (bal_l0 + 1 == i + 1) {
+        if (bal_l0 == i) {
+          bal_c0 = 1ull;
+        } else {
+          bal_c0 = 0ull;
+        }
+      }
+    }
+    bal_k = (unsigned __int128)bal_c1;
+    bal_def0 += (unsigned __int128)bal_w * bal_k;
+  }
+  return (uint64_t)(bal_def0 != bal_use0) << 0;
+}
+";
 
 const USAGE: &str =
     "balance: usage: print [--split] SOURCE | run FILE DATA [FLIP] | try SOURCE DATA [FLIP] | report SOURCE | demo NUMBER\n";
@@ -50,13 +109,15 @@ struct Source {
     length: usize,
 }
 
-// Which load, which write to the output and which to the error stream fails. 0 is none. A write takes `most` bytes.
+// Which load, which write to the output and which to the error stream fails. 0 is none. A write takes at most `most`
+// bytes, and the output `room` in all.
 #[derive(Clone, Copy)]
 struct Failing {
     load: u64,
     write: u64,
     line: u64,
     most: usize,
+    room: usize,
 }
 
 const NONE: Failing = Failing {
@@ -64,6 +125,7 @@ const NONE: Failing = Failing {
     write: 0,
     line: 0,
     most: 8,
+    room: 9999,
 };
 
 // What a call leaves.
@@ -107,7 +169,7 @@ fn call(alloc: Global, named: &[Source], line: &str, failing: Failing) -> Result
     let mut shelf = MemShelf::new(alloc, files, one_number(alloc, failing.load)?);
     let mut out = MemSink::new(
         alloc,
-        9999,
+        failing.room,
         std::cmp::max(1, failing.most),
         one_number(alloc, failing.write)?,
     )?;
@@ -140,18 +202,22 @@ const BIG: Source = Source {
     length: 262_145,
 };
 
+const SPELLED_FILE: Source = Source {
+    name: "spelled.c",
+    text: SPELLED,
+    length: 0,
+};
+
 #[test]
 fn prints_the_instrumented_text(rt: HostRuntime) -> Result<(), Fail> {
-    for (source, line) in [(SHIFT_FILE, "print shift.c"), (FULL, "print full.c")] {
+    for (source, line) in [
+        (SHIFT_FILE, "print shift.c"),
+        (FULL, "print full.c"),
+        (SPELLED_FILE, "print spelled.c"),
+    ] {
         let left = call(rt.alloc(), &[source], line, NONE)?;
         assert_eq!(rt; left.status, Status::Done, "{line}");
-        assert!(rt;
-            left.out
-                .bytes
-                .as_slice()
-                .starts_with(FIRST_LINES.as_bytes()),
-            "{line}"
-        );
+        assert_eq!(rt; left.out.bytes.as_slice(), PRINTED.as_bytes(), "{line}");
         assert_eq!(rt; left.err.bytes.as_slice(), b"".as_slice(), "{line}");
     }
     Ok(())
@@ -310,6 +376,42 @@ fn ends_by_the_table(rt: HostRuntime) -> Result<(), Fail> {
     Ok(())
 }
 
+// Texts that aren't taken, in the file p.c, the words, and what is said of them.
+const UNTAKEN: [(&str, &str, &str); 7] = [
+    (
+        "#include <stdint.h>\n\
+#pragma balance range n 1 1000\n\
+void shift(int64_t n, uint64_t A[n]) {\n  \
+for (int64_t i = 0; i < n - 1; i++)\n    \
+A[i + 1] = A[i]",
+        "print p.c",
+        "balance: p.c: S3 Syntax at byte 147\n",
+    ),
+    ("", "print p.c", "balance: p.c: S3 Syntax at byte 0\n"),
+    ("a@b", "run p.c d1", "balance: p.c: S2 Lexical at byte 1\n"),
+    (" /* open", "try p.c d1", "balance: p.c: S2 Lexical at byte 1\n"),
+    (PRINTED, "print p.c", "balance: p.c: S3 Syntax at byte 0\n"),
+    (PRINTED, "try p.c d1", "balance: p.c: S3 Syntax at byte 0\n"),
+    (PRINTED, "run p.c d1", "balance: p.c: S0 Unbuilt\n"),
+];
+
+#[test]
+fn refuses_texts(rt: HostRuntime) -> Result<(), Fail> {
+    for (text, line, told) in UNTAKEN {
+        let source = Source {
+            name: "p.c",
+            text,
+            length: 0,
+        };
+        let left = call(rt.alloc(), &[source], line, NONE)?;
+        assert_eq!(rt; left.status, Status::SourceRefused, "{told}");
+        assert_eq!(rt; left.loads, 1, "{told}");
+        assert_eq!(rt; left.out.bytes.as_slice(), b"".as_slice(), "{told}");
+        assert_eq!(rt; left.err.bytes.as_slice(), told.as_bytes());
+    }
+    Ok(())
+}
+
 const WIDE_FILE: Source = Source {
     name: "wide.c",
     text: WIDE,
@@ -416,33 +518,47 @@ fn stops_at_a_second_load_that_fails(rt: HostRuntime) -> Result<(), Fail> {
     Ok(())
 }
 
+// The call ends with a write fault, and this many bytes of its output are there.
+fn stops_within(
+    rt: &impl Abort,
+    alloc: Global,
+    failing: Failing,
+    length: usize,
+) -> Result<(), Fail> {
+    let files = [SHIFT_FILE, data_file(D1)];
+    let left = call(alloc, &files, "try shift.c d1", failing)?;
+    let whole = BALANCED.as_bytes();
+    assert_eq!(rt; left.status, Status::WriteFault, "{length} bytes");
+    assert_eq!(rt;
+        left.out.bytes.as_slice(),
+        &whole[..whole.len().min(length)]
+    );
+    assert_eq!(rt;
+        left.err.bytes.as_slice(),
+        b"balance: cannot write\n".as_slice()
+    );
+    Ok(())
+}
+
 #[test]
 fn writes_a_prefix_where_a_write_fails(rt: HostRuntime) -> Result<(), Fail> {
-    for (most, writes) in [(1, 21), (8, 3)] {
+    for (most, writes) in [(1usize, 21u64), (8, 3)] {
         for whole in 0..writes {
             let failing = Failing {
                 write: whole + 1,
                 most,
                 ..NONE
             };
-            let left = call(
+            stops_within(
+                &rt,
                 rt.alloc(),
-                &[SHIFT_FILE, data_file(D1)],
-                "try shift.c d1",
                 failing,
+                most.saturating_mul(whole as usize),
             )?;
-            let out = left.out.bytes.as_slice();
-            assert_eq!(rt; left.status, Status::WriteFault, "{whole} writes");
-            assert!(rt; BALANCED.as_bytes().starts_with(out), "{whole} writes");
-            assert!(rt;
-                out.len() <= most.saturating_mul(whole as usize),
-                "{whole} writes"
-            );
-            assert_eq!(rt;
-                left.err.bytes.as_slice(),
-                b"balance: cannot write\n".as_slice()
-            );
         }
+    }
+    for room in 0..BALANCED.len() {
+        stops_within(&rt, rt.alloc(), Failing { room, ..NONE }, room)?;
     }
     Ok(())
 }

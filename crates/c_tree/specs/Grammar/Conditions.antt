@@ -1,5 +1,5 @@
 -- Which token lists are conditions, and of which tests.
-use Rattle.std.specs.Prelude.{ℕ, ◌≤◌, Bool, List, [], ◌∷◌, ◌++◌}
+use Rattle.std.specs.Prelude.{ℕ, Bool, List, [], ◌∷◌, ◌++◌}
 use Rattle.c_tree.specs.declared.expr.Rel.{Rel}
 use Rattle.c_tree.specs.Plain.{PlainExpr, PlainTest}
 use Rattle.c_tree.specs.declared.symbol.Symbol.TheVariants as s

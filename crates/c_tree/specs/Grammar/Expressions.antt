@@ -1,5 +1,5 @@
 -- Which token lists are expressions, and of which trees.
-use Rattle.std.specs.Prelude.{◌≡◌, ℕ, suc, ◌≤◌, max, Bool, true, false, cond, List, [], ◌∷◌}
+use Rattle.std.specs.Prelude.{◌≡◌, ℕ, suc, ◌≤◌, max, Bool, true, cond, List, ◌∷◌}
 use Rattle.c_tree.specs.declared.expr.Rel.{Rel}
 use Rattle.c_tree.specs.declared.expr.UnOp.{UnOp}
 use Rattle.c_tree.specs.declared.expr.BinOp.{BinOp}

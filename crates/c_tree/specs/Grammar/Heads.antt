@@ -1,5 +1,5 @@
 -- The parts of a unit's head, and the tables of a printed text: which token lists they are.
-use Rattle.std.specs.Prelude.{◌≡◌, ℕ, zero, suc, ℤ, pos, negsuc, ◌^◌, ◌<◌, ◌≤◌, Bool, true, false, List, [], ◌∷◌, ◌++◌, codes}
+use Rattle.std.specs.Prelude.{ℕ, zero, suc, ℤ, pos, negsuc, ◌^◌, ◌<◌, ◌≤◌, Bool, true, false, List, [], ◌∷◌, ◌++◌, codes}
 use Rattle.c_tree.specs.Plain.{Word, PlainExpr, PlainExprs, no_exprs, more_exprs, PlainStmt, table, PlainParam, int_param, array_param}
 use Rattle.c_tree.specs.declared.symbol.Symbol.TheVariants as s
 use Rattle.c_tree.specs.Grammar.Lexemes as t

@@ -1,5 +1,5 @@
 -- Which token lists are statements, and of which lists of plain statements.
-use Rattle.std.specs.Prelude.{◌≡◌, ℕ, suc, ◌+◌, ◌^◌, ◌≤◌, ◌<◌, max, cond, Bool, true, false, List, [], ◌∷◌, Option, Some, None}
+use Rattle.std.specs.Prelude.{◌≡◌, ℕ, suc, ◌+◌, ◌^◌, ◌≤◌, ◌<◌, max, cond, Bool, true, false, List, ◌∷◌, Option, Some, None}
 use Rattle.c_tree.specs.declared.expr.Rel.{Rel}
 use Rattle.c_tree.specs.declared.expr.Rel.TheVariants as r
 use Rattle.c_tree.specs.declared.expr.BinOp.{BinOp}

@@ -1,5 +1,5 @@
 -- The tables of operators, comparisons and calls, with their marks and words.
-use Rattle.std.specs.Prelude.{ℕ, Bool, true, false}
+use Rattle.std.specs.Prelude.{ℕ, Bool, true}
 use Rattle.c_tree.specs.declared.expr.Rel.{Rel}
 use Rattle.c_tree.specs.declared.expr.Rel.TheVariants as r
 use Rattle.c_tree.specs.declared.expr.UnOp.{UnOp}

@@ -1,4 +1,4 @@
-use Rattle.balance_cli.proofs.Clauses.{caused, misused_only, misused, asked, complete}
+use Rattle.balance_cli.proofs.Clauses.{caused, misused_only, misused, asked, complete, determined_end}
 use Rattle.balance_cli.proofs.call.balance.Goals as goal
 
 pub returns-clause-cause : goal.returns-clause-cause
@@ -14,4 +14,33 @@ pub returns-clause-asked : goal.returns-clause-asked
 returns-clause-asked g c = asked _ _ _ c.answered.ensures
 
 pub returns-clause-complete : goal.returns-clause-complete
-returns-clause-complete g c = complete c.one_unit.ensures c.one_answer.ensures _ _ _ c.answered.ensures
+returns-clause-complete g c = complete (record {
+  texts = record {
+    once = c.one_unit.ensures;
+    apart = c.one_reading.ensures.not_both;
+    tokens = c.one_reading.ensures.tokens_or_stop;
+    units = c.unit_or_none.ensures;
+    forms = c.one_loop_or_not.ensures;
+  };
+  one_answer = c.one_answer.ensures;
+  some_answer = c.some_answer.ensures;
+  guards = c.one_loop_guards.ensures;
+  accepted = c.one_loop_is_accepted.ensures.accepted;
+  stores = c.one_loop_is_accepted.ensures.stores;
+}) _ _ _ c.answered.ensures
+
+pub returns-clause-determined : goal.returns-clause-determined
+returns-clause-determined g c = determined_end (record {
+  texts = record {
+    once = c.one_unit.ensures;
+    apart = c.one_reading.ensures.not_both;
+    tokens = c.one_reading.ensures.tokens_or_stop;
+    units = c.unit_or_none.ensures;
+    forms = c.one_loop_or_not.ensures;
+  };
+  one_answer = c.one_answer.ensures;
+  some_answer = c.some_answer.ensures;
+  guards = c.one_loop_guards.ensures;
+  accepted = c.one_loop_is_accepted.ensures.accepted;
+  stores = c.one_loop_is_accepted.ensures.stores;
+}) _ _ _ c.answered.ensures

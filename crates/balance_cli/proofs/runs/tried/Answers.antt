@@ -5,6 +5,7 @@ use Rattle.data_file.specs.Texts.{output_text}
 use Rattle.interp.specs.Finished.{inputs_in}
 use Rattle.balance_cli.specs.Runs.{finish_of}
 use Rattle.balance_cli.proofs.Framed.{few_params, few_made}
+use Rattle.balance_cli.proofs.Heads.{made_head}
 use Rattle.balance_cli.proofs.Named.{AllUnchecked}
 use Rattle.balance_cli.proofs.Shown.{ends_of, weaker}
 use Rattle.balance_cli.proofs.Unchecked.{guarded_unchecked}
@@ -28,9 +29,11 @@ returns c =
     weaker _ c.shown.result (λ output is. record {
       unit = unit c.in_ok-guarded.guarded;
       made = c.in_ok-guarded.ensures.made;
+      head = made_head _ _ c.in_ok-guarded.ensures.made;
       accepted = c.in_ok-guarded.ensures.accepted;
       stores = c.in_ok-guarded.ensures.stores;
       guards = c.in_ok-guarded.ensures.guards;
+      names = c.in_ok-guarded.ensures.names;
       accesses = c.in_ok-guarded.ensures.accesses;
       totals = c.in_ok-guarded.ensures.totals;
       ended = c.in_ok-ended.ended;

@@ -11,10 +11,10 @@ pub returns-in_err-unit : goal.returns-in_err-unit
 returns-in_err-unit g c =
     let p = err_from_is_err_and c.from_residual-in_err-unit.result c.from_residual-in_err-unit.ensures.1 in
     rw (p.1, p.2) (follows_load _ _ _ _ _ _ _ _ _ c.in_ok-text.ensures
-    (follows_refused _ _ _ _ c.in_err-unit.field-0.0 c.as_slice.ensures c.in_err-unit.ensures))
+    (follows_refused _ _ _ _ _ c.in_err-unit.field-0.0 c.as_slice.ensures c.in_err-unit.ensures))
 
 pub returns : goal.returns
 returns g c =
     follows_load _ _ _ _ _ _ _ _ _ c.in_ok-text.ensures
-    (follows_judged _ _ _ _ _ c.in_ok-unit.unit _ c.as_slice.ensures c.in_ok-unit.ensures
+    (follows_judged _ _ _ _ _ _ c.in_ok-unit.unit _ c.as_slice.ensures c.in_ok-unit.ensures
     (follows_printed _ _ _ c.printed.ensures))

@@ -1,12 +1,18 @@
 use Rattle.std.proofs.Common.{refl}
 use Rattle.c_tree.specs.Trees.{unit as unit_of}
+use Rattle.balance_cli.proofs.Heads.{made_head}
 use Rattle.balance_cli.proofs.stages.printed.Goals as goal
 
 pub returns : goal.returns
 returns c = record {
   unit = unit_of c.in_ok-guarded.guarded;
   text = c.in_ok-text.ensures;
+  head = made_head _ _ c.in_ok-guarded.ensures.made;
   accepted = c.in_ok-guarded.ensures.accepted;
+  stores = c.in_ok-guarded.ensures.stores;
   guards = c.in_ok-guarded.ensures.guards;
+  names = c.in_ok-guarded.ensures.names;
+  accesses = c.in_ok-guarded.ensures.accesses;
+  totals = c.in_ok-guarded.ensures.totals;
   done = refl;
 }

@@ -14,27 +14,27 @@ pub returns-in_err-unit : goal.returns-in_err-unit
 returns-in_err-unit g c =
     let p = err_from_is_err_and c.from_residual-in_err-unit.result c.from_residual-in_err-unit.ensures.1 in
     rw (p.1, p.2) (follows_load _ _ _ _ _ _ _ _ _ c.in_ok-text.ensures
-    (follows_refused _ _ _ _ c.in_err-unit.field-0.0 c.as_slice.ensures c.in_err-unit.ensures))
+    (follows_refused _ _ _ _ _ c.in_err-unit.field-0.0 c.as_slice.ensures c.in_err-unit.ensures))
 
 pub returns-in_err-bytes : goal.returns-in_err-bytes
 returns-in_err-bytes g c =
     let p = err_from_is_err_and c.from_residual-in_err-bytes.result c.from_residual-in_err-bytes.ensures.1 in
     rw (p.1, p.2) (follows_load _ _ _ _ _ _ _ _ _ c.in_ok-text.ensures
-    (follows_judged _ _ _ _ _ c.in_ok-unit.unit _ c.as_slice.ensures c.in_ok-unit.ensures
+    (follows_judged _ _ _ _ _ _ c.in_ok-unit.unit _ c.as_slice.ensures c.in_ok-unit.ensures
     (follows_stop _ _ _ _ _ _ _ c.in_err-bytes.ensures)))
 
 pub returns-in_err-inputs : goal.returns-in_err-inputs
 returns-in_err-inputs g c =
     let p = err_from_is_err_and c.from_residual-in_err-inputs.result c.from_residual-in_err-inputs.ensures.1 in
     rw (p.1, p.2) (follows_load _ _ _ _ _ _ _ _ _ c.in_ok-text.ensures
-    (follows_judged _ _ _ _ _ c.in_ok-unit.unit _ c.as_slice.ensures c.in_ok-unit.ensures
+    (follows_judged _ _ _ _ _ _ c.in_ok-unit.unit _ c.as_slice.ensures c.in_ok-unit.ensures
     (follows_load _ _ _ _ _ _ _ _ _ c.in_ok-bytes.ensures
     (follows_unread _ _ _ _ _ c.in_err-inputs.field-0.0 c.as_slice-2.ensures c.in_err-inputs.ensures))))
 
 pub returns : goal.returns
 returns g c =
     follows_load _ _ _ _ _ _ _ _ _ c.in_ok-text.ensures
-    (follows_judged _ _ _ _ _ c.in_ok-unit.unit _ c.as_slice.ensures c.in_ok-unit.ensures
+    (follows_judged _ _ _ _ _ _ c.in_ok-unit.unit _ c.as_slice.ensures c.in_ok-unit.ensures
     (follows_load _ _ _ _ _ _ _ _ _ c.in_ok-bytes.ensures
     (follows_read _ _ _ _ _ _ c.in_ok-inputs.inputs _ c.as_slice-2.ensures c.in_ok-inputs.ensures
     (follows_run _ _ _ _ c.ran.ensures))))

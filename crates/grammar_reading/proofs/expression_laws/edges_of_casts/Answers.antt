@@ -1,6 +1,4 @@
-use Rattle.std.proofs.Common.{◌≡◌, Some, None, sym, ◌∙◌, refl, arith}
-use Rattle.c_tree.specs.Plain.{PlainExpr}
-use Rattle.grammar_reading.specs.Reading.{whole}
+use Rattle.std.proofs.Common.{arith}
 use Rattle.grammar_reading.specs.Edges.{few, three_around, left_deep, left_deep_tree}
 use Rattle.grammar_reading.proofs.Whole.{whole_sound, whole_complete}
 use Rattle.grammar_reading.proofs.Edges.{refused, read, apart}

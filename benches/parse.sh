@@ -1,0 +1,68 @@
+#!/usr/bin/env bash
+# Times the reading of texts: `balance run` reads a text whole before it refuses or runs it, and none of these is run.
+# For each size the least processor time (user and system) of three runs, and the most memory.
+#   assignments  a printed text of assignments alone, with gcc -fsyntax-only on the same text beside it
+#   parentheses, braces  that mark alone
+#   comment      one comment
+set -eu
+program=${1:-bin/balance}
+[ -x "$program" ] || { echo "benches/parse.sh: no program at $program (make build)" >&2; exit 1; }
+folder=$(mktemp -d)
+trap 'rm -rf "$folder"' EXIT
+python3 - "$program" "$folder" <<'PY'
+import os, resource, subprocess, sys, time
+
+program, folder = sys.argv[1:]
+LIMIT = 16_777_216
+PREAMBLE = """#include <stdint.h>
+#include <stdlib.h>
+static inline uint64_t umin(uint64_t a, uint64_t b) { return a < b ? a : b; }
+static inline uint64_t umax(uint64_t a, uint64_t b) { return a < b ? b : a; }
+static inline int64_t bal_min(int64_t a, int64_t b) { return a < b ? a : b; }
+static inline int64_t bal_max(int64_t a, int64_t b) { return a < b ? b : a; }
+static inline unsigned __int128 bal_wide(uint64_t h, uint64_t l) { return (unsigned __int128)h << 64 | l; }
+"""
+HEAD = PREAMBLE + """#pragma balance version 1
+#pragma balance range n 1 1000
+uint64_t bal_fn_long(int64_t n) {
+  uint64_t bal_w = 0ull;
+#pragma balance begin
+"""
+TAIL = "  return 0;\n}\n"
+LINE = "  bal_w = (bal_w + 17ull) * 3ull;\n"
+
+def assignments(size):
+    lines = (size - len(HEAD) - len(TAIL)) // len(LINE)
+    return HEAD + LINE * lines + TAIL
+
+KINDS = [
+    ("assignments", assignments),
+    ("parentheses", lambda size: "(" * size),
+    ("braces", lambda size: "{" * size),
+    ("comment", lambda size: "/*" + " " * (size - 4) + "*/"),
+]
+
+def measured(words):
+    """The least processor time of three runs, the most memory in MB, and what was said."""
+    best, most, said = None, 0, b""
+    for _ in range(3):
+        child = subprocess.Popen(words, stdout=subprocess.DEVNULL, stderr=subprocess.PIPE)
+        said = child.stderr.read()
+        _, _, usage = os.wait4(child.pid, 0)
+        spent = usage.ru_utime + usage.ru_stime
+        best = spent if best is None else min(best, spent)
+        most = max(most, usage.ru_maxrss / 1024)
+    return best, most, said.decode(errors="replace").strip().replace(folder + "/", "")
+
+print(f"{'text':12} {'bytes':>10} {'seconds':>8} {'MB':>7} {'s a MB':>7}   answer")
+for kind, make in KINDS:
+    for size in (1 << 20, 4 << 20, LIMIT):
+        name = os.path.join(folder, kind + ".c")
+        with open(name, "w") as file:
+            file.write(make(size))
+        spent, most, said = measured([program, "run", name, "none"])
+        print(f"{kind:12} {size:10} {spent:8.3f} {most:7.0f} {spent * (1 << 20) / size:7.4f}   {said[:60]}")
+        if kind == "assignments":
+            spent, most, _ = measured(["gcc", "-std=gnu17", "-w", "-fsyntax-only", name])
+            print(f"{'  gcc':12} {size:10} {spent:8.3f} {most:7.0f} {spent * (1 << 20) / size:7.4f}")
+PY

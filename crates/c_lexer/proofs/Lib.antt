@@ -1,0 +1,15 @@
+pub mod Fronts
+pub mod Passing
+pub mod Turns
+pub mod Tests
+pub mod Comments
+pub mod WordLemmas
+pub mod Right
+pub mod Hashes
+pub mod Longest
+pub mod Steps
+pub mod Meant
+pub mod Parts
+pub mod Answered
+pub mod Forms
+pub mod Literals

@@ -1,0 +1,22 @@
+use Rattle.std.proofs.Common.{refl}
+use Rattle.std.specs.Int.{int_wrap}
+use Rattle.std.specs.Fmt.{digits}
+use Rattle.c_tree.specs.Fault.{disturbed}
+use Rattle.instrumentation.specs.Names.{register, result, count, definition_total, use_total, coordinate, pass_variable, active, counter, function_name}
+use Rattle.turned_texts.proofs.right.fill_is_told.Goals as goal
+
+pub returns-clause-calm : goal.returns-clause-calm
+unfolding int_wrap digits register result count definition_total use_total coordinate pass_variable active counter function_name
+returns-clause-calm c = refl
+
+pub returns-clause-totals : goal.returns-clause-totals
+unfolding int_wrap digits register result count definition_total use_total coordinate pass_variable active counter function_name
+returns-clause-totals c = refl
+
+pub returns-clause-lowest_bit : goal.returns-clause-lowest_bit
+unfolding int_wrap digits disturbed register result count definition_total use_total coordinate pass_variable active counter function_name
+returns-clause-lowest_bit c = refl
+
+pub returns-clause-highest_bit : goal.returns-clause-highest_bit
+unfolding int_wrap digits disturbed register result count definition_total use_total coordinate pass_variable active counter function_name
+returns-clause-highest_bit c = refl
