@@ -1,8 +1,8 @@
 -- The frame of a unit of the one-loop form, and the inputs that a data text means by it.
-use Rattle.std.proofs.Common.{◌≡◌, ℕ, zero, suc, ◌+◌, ◌-◌, ◌*◌, ◌≤ℤ◌, get_or, drop, ◌^◌, ◌<◌, ◌≤◌, Bool, true, false, not, ◌||◌, ◌==◌, nat_lt, int_lt, List, [], ◌∷◌, length, map, slice_get, Some, None, ℤ, pos, negsuc, ◌+ℤ◌, ◌*ℤ◌, unsigned_abs, if◌then◌else◌, bytes_eq, inl, inr, refl, sym, ap, ◌∙◌, subst, arith}
+use Rattle.std.proofs.Common.{◌≡◌, ℕ, zero, suc, ◌-◌, ◌*◌, ◌≤ℤ◌, ◌^◌, ◌<◌, ◌≤◌, Bool, true, false, not, ◌||◌, ◌==◌, nat_lt, int_lt, List, [], ◌∷◌, length, map, slice_get, Some, None, ℤ, pos, negsuc, ◌+ℤ◌, ◌*ℤ◌, unsigned_abs, if◌then◌else◌, bytes_eq, inl, inr, refl, sym, ap, ◌∙◌, subst, arith}
 use Rattle.std.proofs.lemmas.Bool.{or_parts}
 use Rattle.std.proofs.lemmas.Int.{ints}
-use Rattle.std.proofs.lemmas.List.{length-map, at_drop_more}
+use Rattle.std.proofs.lemmas.List.{length-map}
 use Rattle.std.proofs.lemmas.Option.{same_Some}
 use Rattle.std.proofs.lemmas.Slice.Eq.{bytes_eq-Decides}
 use Rattle.std.specs.List.{AllByRecursion}
@@ -17,7 +17,6 @@ use Rattle.c_tree.specs.declared.frame.ArrayInfo.{ArrayInfo}
 use Rattle.c_tree.specs.declared.frame.Frame.{Frame}
 use Rattle.c_tree.specs.declared.name.Name.{Name}
 use Rattle.c_tree.specs.declared.unit.Param.{Param}
-use Rattle.c_tree.specs.declared.unit.Param.TheVariants.{Int}
 use Rattle.c_tree.specs.declared.unit.Unit.{Unit as TheUnit}
 use Rattle.instrumentation.specs.Guarded.{guarded}
 use Rattle.data_file.specs.Checks.{value_in}
@@ -25,7 +24,7 @@ use Rattle.data_file.specs.Conditions.{IsFrame, IsSmallSum, names_in}
 use Rattle.data_file.specs.Meaning.{Spells, IsRow, AreRows, rows_of}
 use Rattle.data_file.specs.declared.row.Row.{Row}
 use Rattle.data_file.specs.declared.row.Row.TheVariants.{Cells}
-use Rattle.balance_cli.specs.Frames.{named_by, number_from, range_in, arrays_in, frame_in}
+use Rattle.balance_cli.specs.Frames.{named_by, range_in, arrays_in, frame_in}
 use Rattle.balance_cli.specs.Inputs.{IsMeant}
 
 -- ---- it is a frame
