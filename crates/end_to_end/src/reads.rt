@@ -2,6 +2,7 @@
 
 use c_parser::parse;
 use c_tree::{BinOp, Expr, Name, Param, Refusal, Rel, Stmt, Unit};
+use one_loop::is_one_loop;
 use std::alloc::Global;
 
 const SHIFT: &[u8] = b"#include <stdint.h>
@@ -249,28 +250,87 @@ fn reads_the_longest_sums(rt: HostRuntime) {
     }
 }
 
-/// `<=`, no last brace, no text, `08` as a bound of the loop and of the range, a range from 0, a reserved name, 33 items, 17 cells, a comment,
-/// `+ +` and an indented `#include`.
+/// `<=`, a range from 0, a reserved name, 33 items, 17 cells and `-=`: units of another form.
 #[test]
-fn refuses_other_forms(rt: HostRuntime) {
-    let texts: [&[u8]; 12] = [
+fn reads_other_forms(rt: HostRuntime) {
+    let texts: [&[u8]; 6] = [
         b"#include <stdint.h>\n#pragma balance range n 1 1000\nvoid shift(int64_t n, uint64_t A[n]) {\n  for (int64_t i = 0; i <= n - 2; i++)\n    A[i + 1] = A[i] + 1;\n}\n",
-        b"#include <stdint.h>\n#pragma balance range n 1 1000\nvoid shift(int64_t n, uint64_t A[n]) {\n  for (int64_t i = 0; i < n - 1; i++)\n    A[i + 1] = A[i] + 1;\n",
-        b"",
-        b"#include <stdint.h>\n#pragma balance range n 1 1000\nvoid shift(int64_t n, uint64_t A[n]) {\n  for (int64_t i = 08; i < n - 1; i++)\n    A[i + 1] = A[i] + 1;\n}\n",
-        b"#include <stdint.h>\n#pragma balance range n 08 1000\nvoid shift(int64_t n, uint64_t A[n]) {\n  for (int64_t i = 0; i < n - 1; i++)\n    A[i + 1] = A[i] + 1;\n}\n",
         b"#include <stdint.h>\n#pragma balance range n 0 1000\nvoid shift(int64_t n, uint64_t A[n]) {\n  for (int64_t i = 0; i < n - 1; i++)\n    A[i + 1] = A[i] + 1;\n}\n",
         b"#include <stdint.h>\n#pragma balance range n 1 1000\nvoid bal_x(int64_t n, uint64_t A[n]) {\n  for (int64_t i = 0; i < n - 1; i++)\n    A[i + 1] = A[i] + 1;\n}\n",
         b"#include <stdint.h>\n#pragma balance range n 1 1000\nvoid shift(int64_t n, uint64_t A[n]) {\n  for (int64_t i = 0; i < n - 1; i++)\n    A[i + 1] = 1 + 1 + 1 + 1 + 1 + 1 + 1 + 1 + 1 + 1 + 1 + 1 + 1 + 1 + 1 + 1 + 1 + 1 + 1 + 1 + 1 + 1 + 1 + 1 + 1 + 1 + 1 + 1 + 1 + 1 + 1 + 1 + 1;\n}\n",
         b"#include <stdint.h>\n#pragma balance range n 1 1000\nvoid shift(int64_t n, uint64_t A[n]) {\n  for (int64_t i = 0; i < n - 1; i++)\n    A[i + 1] = A[i] + A[i] + A[i] + A[i] + A[i] + A[i] + A[i] + A[i] + A[i] + A[i] + A[i] + A[i] + A[i] + A[i] + A[i] + A[i] + A[i];\n}\n",
-        b"#include <stdint.h>\n#pragma balance range n 1 1000\nvoid shift(int64_t n, uint64_t A[n]) {\n  for (int64_t i = 0; i < n - 1; i++)\n    A[i + 1] = A[i] + 1; // next\n}\n",
-        b"#include <stdint.h>\n#pragma balance range n 1 1000\nvoid shift(int64_t n, uint64_t A[n]) {\n  for (int64_t i = 0; i < n - 1; i++)\n    A[i + 1] = A[i]+ +1;\n}\n",
-        b" #include <stdint.h>\n#pragma balance range n 1 1000\nvoid shift(int64_t n, uint64_t A[n]) {\n  for (int64_t i = 0; i < n - 1; i++)\n    A[i + 1] = A[i] + 1;\n}\n",
+        b"#include <stdint.h>\n#pragma balance range n 1 1000\nvoid shift(int64_t n, uint64_t A[n]) {\n  for (int64_t i = 0; i < n - 1; i++)\n    A[i + 1] -= 1;\n}\n",
     ];
     for (i, text) in texts.iter().enumerate() {
-        assert!(rt;
-            matches!(read(rt.alloc(), text), Err(Refusal::Unbuilt)),
-            "text {i}"
-        );
+        match read(rt.alloc(), text) {
+            Ok(unit) => assert!(rt; !is_one_loop(&unit), "text {i}"),
+            Err(_) => panic!(rt; "text {i} is refused"),
+        }
     }
+}
+
+fn is_syntax_at(text: &[u8], place: u32, alloc: Global) -> bool {
+    match read(alloc, text) {
+        Err(Refusal::Syntax { byte }) => byte == place,
+        _ => false,
+    }
+}
+
+fn is_lexical_at(text: &[u8], place: u32, alloc: Global) -> bool {
+    match read(alloc, text) {
+        Err(Refusal::Lexical { byte }) => byte == place,
+        _ => false,
+    }
+}
+
+/// No text, no last brace, no `;`, and one brace too many.
+#[test]
+fn refuses_tokens_at_their_place(rt: HostRuntime) {
+    let texts: [(&[u8], u32); 4] = [
+        (b"", 0),
+        (
+            b"#include <stdint.h>\n#pragma balance range n 1 1000\nvoid shift(int64_t n, uint64_t A[n]) {\n  for (int64_t i = 0; i < n - 1; i++)\n    A[i + 1] = A[i] + 1;\n",
+            153,
+        ),
+        (
+            b"#include <stdint.h>\n#pragma balance range n 1 1000\nvoid shift(int64_t n, uint64_t A[n]) {\n  for (int64_t i = 0; i < n - 1; i++)\n    A[i + 1] = A[i] + 1\n}\n",
+            152,
+        ),
+        (
+            b"#include <stdint.h>\n#pragma balance range n 1 1000\nvoid shift(int64_t n, uint64_t A[n]) {\n  for (int64_t i = 0; i < n - 1; i++)\n    A[i + 1] = A[i] + 1;\n}\n}\n",
+            155,
+        ),
+    ];
+    for (i, (text, place)) in texts.iter().enumerate() {
+        assert!(rt; is_syntax_at(text, *place, rt.alloc()), "text {i}");
+    }
+}
+
+/// `08` in a loop and in a range, and another directive.
+#[test]
+fn refuses_bytes_at_their_place(rt: HostRuntime) {
+    let texts: [(&[u8], u32); 3] = [
+        (
+            b"#include <stdint.h>\n#pragma balance range n 1 1000\nvoid shift(int64_t n, uint64_t A[n]) {\n  for (int64_t i = 08; i < n - 1; i++)\n    A[i + 1] = A[i] + 1;\n}\n",
+            109,
+        ),
+        (
+            b"#include <stdint.h>\n#pragma balance range n 08 1000\nvoid shift(int64_t n, uint64_t A[n]) {\n  for (int64_t i = 0; i < n - 1; i++)\n    A[i + 1] = A[i] + 1;\n}\n",
+            44,
+        ),
+        (
+            b"#define N 3\n#include <stdint.h>\n#pragma balance range n 1 1000\nvoid shift(int64_t n, uint64_t A[n]) {\n  for (int64_t i = 0; i < n - 1; i++)\n    A[i + 1] = A[i] + 1;\n}\n",
+            0,
+        ),
+    ];
+    for (i, (text, place)) in texts.iter().enumerate() {
+        assert!(rt; is_lexical_at(text, *place, rt.alloc()), "text {i}");
+    }
+}
+
+#[test]
+fn refuses_a_second_plus(rt: HostRuntime) {
+    let text =
+        b"#include <stdint.h>\n#pragma balance range n 1 1000\nvoid shift(int64_t n, uint64_t A[n]) {\n  for (int64_t i = 0; i < n - 1; i++)\n    A[i + 1] = A[i]+ +1;\n}\n";
+    assert!(rt; matches!(read(rt.alloc(), text), Err(Refusal::Syntax { .. })));
 }
