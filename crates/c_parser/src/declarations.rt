@@ -12,7 +12,7 @@ ghost use Rattle.c_parser.specs.Seen as seen;
 use crate::steps::begins;
 use crate::wanted::{Wanted, fixed};
 use c_tree::{Name, NameList, Symbol, Words};
-use expression_parser::{ParseError, Terminal, after, expect, name_of, number, word};
+use expression_parser::{ParseError, Terminal, after, expect, name_of, number};
 use grammar_reading::Rules;
 use sqlite_items::Items;
 use statement_parser::name;
@@ -37,14 +37,15 @@ fn declaration<'s>(
     text: &[u8],
     ts: &'s [Terminal],
 ) -> Result<((Name, u64), &'s [Terminal]), ParseError>
-    ensures { Gives (λ x. (seen.declaration x.0, all_seen text.now x.1.now)) result (spec.declaration_at (all_seen text.now ts.entry.now)) }
+    ensures { Gives (λ x. (seen.declaration x.0, all_seen text.now x.1.now)) result
+        (spec.declaration_at (all_seen text.now ts.entry.now)) }
 {
     let rest = expect(Symbol::Uint64, text, ts)?;
     let (place, rest) = name(text, rest)?;
     let rest = expect(Symbol::Assign, text, rest)?;
     let (n, rest) = number(text, rest)?;
     let rest = expect(Symbol::Semicolon, text, rest)?;
-    let declared = name_of(alloc, word(text, place.start, place.end))?;
+    let declared = name_of(alloc, place.word(text))?;
     Ok(((declared, n), rest))
 }
 
@@ -56,7 +57,8 @@ pub fn words<'s>(
     text: &[u8],
     ts: &'s [Terminal],
 ) -> Result<(Words, &'s [Terminal]), ParseError>
-    ensures { Gives (λ x. (seen.declarations x.0, all_seen text.now x.1.now)) result (spec.words c.turns [] (all_seen text.now ts.entry.now)) }
+    ensures { Gives (λ x. (seen.declarations x.0, all_seen text.now x.1.now)) result
+        (spec.words c.turns [] (all_seen text.now ts.entry.now)) }
 {
     let mut words = Items::new(alloc);
     let mut rest = ts;
@@ -78,7 +80,8 @@ fn wide<'s>(
     text: &[u8],
     ts: &'s [Terminal],
 ) -> Result<(Name, &'s [Terminal]), ParseError>
-    ensures { Gives (λ x. (t.word x.0, all_seen text.now x.1.now)) result (heads.wide_at (all_seen text.now ts.entry.now)) }
+    ensures { Gives (λ x. (t.word x.0, all_seen text.now x.1.now)) result
+        (heads.wide_at (all_seen text.now ts.entry.now)) }
 {
     let front = [Wanted::Mark(Symbol::Unsigned), Wanted::Mark(Symbol::Int128)];
     let zero = [
@@ -89,7 +92,7 @@ fn wide<'s>(
     let rest = fixed(&front, text, ts)?;
     let (place, rest) = name(text, rest)?;
     let rest = fixed(&zero, text, rest)?;
-    let declared = name_of(alloc, word(text, place.start, place.end))?;
+    let declared = name_of(alloc, place.word(text))?;
     Ok((declared, rest))
 }
 
@@ -101,7 +104,8 @@ pub fn wides<'s>(
     text: &[u8],
     ts: &'s [Terminal],
 ) -> Result<(NameList, &'s [Terminal]), ParseError>
-    ensures { Gives (λ x. (names.words x.0, all_seen text.now x.1.now)) result (spec.wides c.turns [] (all_seen text.now ts.entry.now)) }
+    ensures { Gives (λ x. (names.words x.0, all_seen text.now x.1.now)) result
+        (spec.wides c.turns [] (all_seen text.now ts.entry.now)) }
 {
     let mut wides = Items::new(alloc);
     let mut rest = ts;

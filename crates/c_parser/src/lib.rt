@@ -19,7 +19,8 @@ ghost use Rattle.c_tree.specs.Grammar.Tokens.{AreTokens, StopsAt};
 ghost use Rattle.c_tree.specs.Plain.{PlainUnit};
 ghost use Rattle.c_tree.specs.Trees.{unit as unit_in};
 ghost use Rattle.c_tree.specs.declared.token.Token.{Token};
-ghost use Rattle.c_parser.specs.Answers.{IsAnswer, IsRefused, IsUnless, IsRefusedUnless, IsSyntaxUnless};
+ghost use Rattle.c_parser.specs.Answers.{IsAnswer, IsRefused, IsUnless};
+ghost use Rattle.c_parser.specs.Answers.{IsRefusedUnless, IsSyntaxUnless};
 
 use c_lexer::{LexFault, lex, one_reading};
 use c_tree::{Refusal, Unit};
@@ -50,10 +51,15 @@ pub fn parse(alloc: Global, text: &[u8]) -> Result<Unit, Refusal>
 
     // Each text has its answer, unless memory runs out: its unit, or the refusal of one that is too
     // long, that has no tokens, or whose tokens are no unit.
-    ensures unit { (u : PlainUnit) → length text.now ≤ 16777216 → IsText text.now u → IsUnless u result }
-    ensures too_long { 16777216 < length text.now → result ≡ Err (Refusal.TextTooLong (length text.now)) }
-    ensures no_tokens { (byte : ℕ) → length text.now ≤ 16777216 → StopsAt text.now byte → IsRefusedUnless (Refusal.Lexical byte) result }
-    ensures no_unit { (tokens : List Token) → length text.now ≤ 16777216 → AreTokens text.now tokens → ((u : PlainUnit) → IsText text.now u → ⊥) → IsSyntaxUnless result }
+    ensures unit { (u : PlainUnit) → length text.now ≤ 16777216
+        → IsText text.now u → IsUnless u result }
+    ensures too_long { 16777216 < length text.now
+        → result ≡ Err (Refusal.TextTooLong (length text.now)) }
+    ensures no_tokens { (byte : ℕ) → length text.now ≤ 16777216
+        → StopsAt text.now byte → IsRefusedUnless (Refusal.Lexical byte) result }
+    ensures no_unit { (tokens : List Token) → length text.now ≤ 16777216
+        → AreTokens text.now tokens → ((u : PlainUnit) → IsText text.now u → ⊥)
+        → IsSyntaxUnless result }
 {
     if text.len() > MOST_BYTES {
         return Err(Refusal::TextTooLong {

@@ -9,7 +9,7 @@ ghost use Rattle.grammar_reading.specs.UnitReading as spec;
 
 use crate::steps::{begins, spelled_name};
 use c_tree::{Expr, Exprs, Param, Params, Symbol};
-use expression_parser::{ParseError, Terminal, after, expect, full_expression, name_of, word};
+use expression_parser::{ParseError, Terminal, after, expect, full_expression, name_of};
 use grammar_reading::Rules;
 use sqlite_items::Items;
 use statement_parser::name;
@@ -23,7 +23,8 @@ fn extent<'s>(
     text: &[u8],
     ts: &'s [Terminal],
 ) -> Result<(Expr, &'s [Terminal]), ParseError>
-    ensures { Gives (λ x. (t.expr x.0, all_seen text.now x.1.now)) result (heads.dim c (all_seen text.now ts.entry.now)) }
+    ensures { Gives (λ x. (t.expr x.0, all_seen text.now x.1.now)) result
+        (heads.dim c (all_seen text.now ts.entry.now)) }
 {
     let rest = expect(Symbol::OpenBracket, text, ts)?;
     let (extent, rest) = full_expression(alloc, c, text, rest)?;
@@ -39,7 +40,8 @@ fn extents<'s>(
     text: &[u8],
     ts: &'s [Terminal],
 ) -> Result<(Exprs, &'s [Terminal]), ParseError>
-    ensures { Gives (λ x. (t.exprs x.0, all_seen text.now x.1.now)) result (heads.dims c 2 (all_seen text.now ts.entry.now)) }
+    ensures { Gives (λ x. (t.exprs x.0, all_seen text.now x.1.now)) result
+        (heads.dims c 2 (all_seen text.now ts.entry.now)) }
 {
     let mut extents = Items::new(alloc);
     let mut rest = ts;
@@ -64,12 +66,13 @@ fn array<'s>(
     text: &[u8],
     ts: &'s [Terminal],
 ) -> Result<(Param, &'s [Terminal]), ParseError>
-    ensures { Gives (λ x. (t.param x.0, all_seen text.now x.1.now)) result (heads.array_at c constant (all_seen text.now ts.entry.now)) }
+    ensures { Gives (λ x. (t.param x.0, all_seen text.now x.1.now)) result
+        (heads.array_at c constant (all_seen text.now ts.entry.now)) }
 {
     let rest = expect(Symbol::Uint64, text, ts)?;
     let (place, rest) = name(text, rest)?;
     let (extents, rest) = extents(alloc, c, text, rest)?;
-    let name = name_of(alloc, word(text, place.start, place.end))?;
+    let name = name_of(alloc, place.word(text))?;
     Ok((
         Param::Array {
             name,
@@ -87,7 +90,8 @@ fn param<'s>(
     text: &[u8],
     ts: &'s [Terminal],
 ) -> Result<(Param, &'s [Terminal]), ParseError>
-    ensures { Gives (λ x. (t.param x.0, all_seen text.now x.1.now)) result (heads.param_at c (all_seen text.now ts.entry.now)) }
+    ensures { Gives (λ x. (t.param x.0, all_seen text.now x.1.now)) result
+        (heads.param_at c (all_seen text.now ts.entry.now)) }
 {
     if let Some(rest) = after(Symbol::Int64, text, ts) {
         let (name, rest) = spelled_name(alloc, text, rest)?;
@@ -107,7 +111,8 @@ pub fn params<'s>(
     text: &[u8],
     ts: &'s [Terminal],
 ) -> Result<(Params, &'s [Terminal]), ParseError>
-    ensures { Gives (λ x. (map t.param x.0, all_seen text.now x.1.now)) result (spec.params c c.turns [] (all_seen text.now ts.entry.now)) }
+    ensures { Gives (λ x. (map t.param x.0, all_seen text.now x.1.now)) result
+        (spec.params c c.turns [] (all_seen text.now ts.entry.now)) }
 {
     let mut params = Items::new(alloc);
     let mut rest = ts;

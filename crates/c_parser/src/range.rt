@@ -9,7 +9,7 @@ ghost use Rattle.c_parser.specs.Seen as seen;
 
 use crate::steps::begins;
 use c_tree::{Name, Ranges, Symbol};
-use expression_parser::{ParseError, Terminal, after, expect, name_of, number, word};
+use expression_parser::{ParseError, Terminal, after, expect, name_of, number};
 use grammar_reading::Rules;
 use sqlite_items::Items;
 use statement_parser::{name, this_name};
@@ -18,7 +18,8 @@ use std::alloc::Global;
 /// A literal as a whole number.
 #[tactic(auto, unfolding(grammar_reading::specs::HeadReading::plus_at))]
 fn plus<'s>(text: &[u8], ts: &'s [Terminal]) -> Result<(i64, &'s [Terminal]), ParseError>
-    ensures { Gives (λ x. (x.0, all_seen text.now x.1.now)) result (heads.plus_at (all_seen text.now ts.entry.now)) }
+    ensures { Gives (λ x. (x.0, all_seen text.now x.1.now)) result
+        (heads.plus_at (all_seen text.now ts.entry.now)) }
 {
     let (n, rest) = number(text, ts)?;
     match 0i64.checked_add_unsigned(n) {
@@ -30,7 +31,8 @@ fn plus<'s>(text: &[u8], ts: &'s [Terminal]) -> Result<(i64, &'s [Terminal]), Pa
 /// A literal behind a minus sign.
 #[tactic(auto, unfolding(grammar_reading::specs::HeadReading::minus_at))]
 fn minus<'s>(text: &[u8], ts: &'s [Terminal]) -> Result<(i64, &'s [Terminal]), ParseError>
-    ensures { Gives (λ x. (x.0, all_seen text.now x.1.now)) result (heads.minus_at (all_seen text.now ts.entry.now)) }
+    ensures { Gives (λ x. (x.0, all_seen text.now x.1.now)) result
+        (heads.minus_at (all_seen text.now ts.entry.now)) }
 {
     let (n, rest) = number(text, ts)?;
     match 0i64.checked_sub_unsigned(n) {
@@ -42,7 +44,8 @@ fn minus<'s>(text: &[u8], ts: &'s [Terminal]) -> Result<(i64, &'s [Terminal]), P
 /// An end of a range.
 #[tactic(auto, unfolding(grammar_reading::specs::HeadReading::int_at))]
 fn int<'s>(text: &[u8], ts: &'s [Terminal]) -> Result<(i64, &'s [Terminal]), ParseError>
-    ensures { Gives (λ x. (x.0, all_seen text.now x.1.now)) result (heads.int_at (all_seen text.now ts.entry.now)) }
+    ensures { Gives (λ x. (x.0, all_seen text.now x.1.now)) result
+        (heads.int_at (all_seen text.now ts.entry.now)) }
 {
     match after(Symbol::Minus, text, ts) {
         Some(rest) => minus(text, rest),
@@ -57,7 +60,8 @@ fn range<'s>(
     text: &[u8],
     ts: &'s [Terminal],
 ) -> Result<((Name, i64, i64), &'s [Terminal]), ParseError>
-    ensures { Gives (λ x. (seen.range x.0, all_seen text.now x.1.now)) result (heads.range_at (all_seen text.now ts.entry.now)) }
+    ensures { Gives (λ x. (seen.range x.0, all_seen text.now x.1.now)) result
+        (heads.range_at (all_seen text.now ts.entry.now)) }
 {
     let rest = expect(Symbol::Directive, text, ts)?;
     let rest = this_name(b"range", text, rest)?;
@@ -65,7 +69,7 @@ fn range<'s>(
     let (lowest, rest) = int(text, rest)?;
     let (highest, rest) = int(text, rest)?;
     let rest = expect(Symbol::EndLine, text, rest)?;
-    let parameter = name_of(alloc, word(text, place.start, place.end))?;
+    let parameter = name_of(alloc, place.word(text))?;
     Ok(((parameter, lowest, highest), rest))
 }
 
@@ -77,7 +81,8 @@ pub fn ranges<'s>(
     text: &[u8],
     ts: &'s [Terminal],
 ) -> Result<(Ranges, &'s [Terminal]), ParseError>
-    ensures { Gives (λ x. (seen.ranges x.0, all_seen text.now x.1.now)) result (spec.ranges c.turns [] (all_seen text.now ts.entry.now)) }
+    ensures { Gives (λ x. (seen.ranges x.0, all_seen text.now x.1.now)) result
+        (spec.ranges c.turns [] (all_seen text.now ts.entry.now)) }
 {
     let mut ranges = Items::new(alloc);
     let mut rest = ts;

@@ -8,7 +8,7 @@ ghost use Rattle.grammar_reading.specs.Blocks as blocks;
 ghost use Rattle.grammar_reading.specs.UnitReading as spec;
 
 use c_tree::{Name, Symbol};
-use expression_parser::{ParseError, Terminal, after, name_of, word};
+use expression_parser::{ParseError, Terminal, after, name_of};
 use statement_parser::name;
 use std::alloc::Global;
 
@@ -25,8 +25,9 @@ pub fn spelled_name<'s>(
     text: &[u8],
     ts: &'s [Terminal],
 ) -> Result<(Name, &'s [Terminal]), ParseError>
-    ensures { Gives (λ x. (t.word x.0, all_seen text.now x.1.now)) result (blocks.name_at (all_seen text.now ts.entry.now)) }
+    ensures { Gives (λ x. (t.word x.0, all_seen text.now x.1.now)) result
+        (blocks.name_at (all_seen text.now ts.entry.now)) }
 {
     let (place, rest) = name(text, ts)?;
-    Ok((name_of(alloc, word(text, place.start, place.end))?, rest))
+    Ok((name_of(alloc, place.word(text))?, rest))
 }

@@ -6,15 +6,16 @@ ghost use Rattle.c_tree.specs.Trees as t;
 ghost use Rattle.c_tree.specs.Grammar.Heads as head_grammar;
 ghost use Rattle.c_tree.specs.Grammar.Statements as grammar;
 ghost use Rattle.c_tree.specs.declared.symbol.Symbol.TheVariants as s;
-ghost use Rattle.expression_parser.specs.Terminals.{all_seen, word_at};
+ghost use Rattle.expression_parser.specs.Terminals.{all_seen};
 ghost use Rattle.expression_parser.specs.Outcome.{Gives};
 ghost use Rattle.grammar_reading.specs.HeadReading as heads;
 ghost use Rattle.grammar_reading.specs.UnitReading as spec;
+ghost use Rattle.statement_parser.specs.Names.{name_in};
 
 use crate::steps::begins;
 use crate::wanted::{Wanted, fixed};
 use c_tree::{Stmt, Stmts, Symbol};
-use expression_parser::{ParseError, Terminal, full_expression, name_of, word};
+use expression_parser::{ParseError, Terminal, full_expression, name_of};
 use grammar_reading::Rules;
 use sqlite_items::Items;
 use statement_parser::{Span, name, statement};
@@ -30,7 +31,9 @@ pub fn statement_limit(printed: bool) -> usize
 /// What follows the length of a table:
 /// `, sizeof(uint64_t)); if (x == 0) { return 1099511627776; }`
 fn table_end<'s>(table: Span, text: &[u8], ts: &'s [Terminal]) -> Result<&'s [Terminal], ParseError>
-    ensures { Gives (λ r. all_seen text.now r.now) result (heads.fixed (head_grammar.table_tokens (word_at text.now table.start table.end)) (all_seen text.now ts.entry.now)) }
+    ensures { Gives (λ r. all_seen text.now r.now) result
+        (heads.fixed (head_grammar.table_tokens (name_in text.now table))
+        (all_seen text.now ts.entry.now)) }
 {
     let tokens = [
         Wanted::Mark(Symbol::Comma),
@@ -63,7 +66,8 @@ fn table<'s>(
     text: &[u8],
     ts: &'s [Terminal],
 ) -> Result<(Stmt, &'s [Terminal]), ParseError>
-    ensures { Gives (λ x. (t.stmt x.0, all_seen text.now x.1.now)) result (heads.table_at c (all_seen text.now ts.entry.now)) }
+    ensures { Gives (λ x. (t.stmt x.0, all_seen text.now x.1.now)) result
+        (heads.table_at c (all_seen text.now ts.entry.now)) }
 {
     let front = [Wanted::Mark(Symbol::Uint64), Wanted::Mark(Symbol::Star)];
     let call = [
@@ -76,7 +80,7 @@ fn table<'s>(
     let rest = fixed(&call, text, rest)?;
     let (length, rest) = full_expression(alloc, c, text, rest)?;
     let rest = table_end(place, text, rest)?;
-    let name = name_of(alloc, word(text, place.start, place.end))?;
+    let name = name_of(alloc, place.word(text))?;
     let length = Box::into_inner(length);
     Ok((Stmt::Table { name, length }, rest))
 }
@@ -88,7 +92,8 @@ fn lone_table<'s>(
     text: &[u8],
     ts: &'s [Terminal],
 ) -> Result<(Stmts, &'s [Terminal]), ParseError>
-    ensures { Gives (λ x. (t.stmts x.0, all_seen text.now x.1.now)) result (spec.table_of c (all_seen text.now ts.entry.now)) }
+    ensures { Gives (λ x. (t.stmts x.0, all_seen text.now x.1.now)) result
+        (spec.table_of c (all_seen text.now ts.entry.now)) }
 {
     let (table, rest) = table(alloc, c, text, ts)?;
     let mut list = Items::new(alloc);
@@ -103,7 +108,9 @@ fn part<'s>(
     text: &[u8],
     ts: &'s [Terminal],
 ) -> Result<(Stmts, &'s [Terminal]), ParseError>
-    ensures { Gives (λ x. (t.stmts x.0, all_seen text.now x.1.now)) result (spec.top_one c (all_seen text.now ts.entry.now) (spec.begins s.Uint64 (all_seen text.now ts.entry.now))) }
+    ensures { Gives (λ x. (t.stmts x.0, all_seen text.now x.1.now)) result
+        (spec.top_one c (all_seen text.now ts.entry.now)
+        (spec.begins s.Uint64 (all_seen text.now ts.entry.now))) }
 {
     if begins(Symbol::Uint64, text, ts) {
         lone_table(alloc, c, text, ts)
@@ -120,7 +127,8 @@ pub fn top_level<'s>(
     text: &[u8],
     ts: &'s [Terminal],
 ) -> Result<(Stmts, &'s [Terminal]), ParseError>
-    ensures { Gives (λ x. (t.stmts x.0, all_seen text.now x.1.now)) result (spec.top c c.turns no_stmts (all_seen text.now ts.entry.now)) }
+    ensures { Gives (λ x. (t.stmts x.0, all_seen text.now x.1.now)) result
+        (spec.top c c.turns no_stmts (all_seen text.now ts.entry.now)) }
 {
     let mut list = Items::new(alloc);
     let mut rest = ts;

@@ -10,7 +10,7 @@ ghost use Rattle.expression_parser.specs.Outcome.{Gives};
 ghost use Rattle.grammar_reading.specs.Reading as reading;
 ghost use Rattle.grammar_reading.specs.UnitReading as spec;
 ghost use Rattle.c_tree.specs.declared.symbol.Symbol.TheVariants as s;
-ghost use Rattle.c_parser.specs.Started.{start_seen};
+ghost use Rattle.c_parser.specs.Started.{start_seen, unit_seen};
 
 use crate::checks::all_checks_below;
 use crate::declarations::{wides, words};
@@ -20,7 +20,7 @@ use crate::top_level::{statement_limit, top_level};
 use crate::verdict::{arrays_among, verdict};
 use crate::wanted::{Wanted, fixed};
 use c_tree::{Name, NameList, OutOfMemory, Params, Ranges, Stmt, Stmts, Symbol, Unit, Words};
-use expression_parser::{ParseError, Terminal, after, expect, name_of, word};
+use expression_parser::{ParseError, Terminal, after, expect, name_of};
 use grammar_reading::Rules;
 use sqlite_items::Items;
 use statement_parser::{block, name};
@@ -56,14 +56,16 @@ fn head<'s>(
     text: &[u8],
     ts: &'s [Terminal],
 ) -> Result<(Function, &'s [Terminal]), ParseError>
-    ensures { Gives (λ x. ((t.word x.0.name, map t.param x.0.params), all_seen text.now x.1.now)) result (spec.head_at c (all_seen text.now ts.entry.now)) }
+    ensures { Gives (λ x. ((t.word x.0.name, map t.param x.0.params), all_seen text.now x.1.now))
+        result
+        (spec.head_at c (all_seen text.now ts.entry.now)) }
 {
     let (place, rest) = name(text, ts)?;
     let rest = expect(Symbol::OpenParen, text, rest)?;
     let (params, rest) = params(alloc, c, text, rest)?;
     let rest = expect(Symbol::CloseParen, text, rest)?;
     let rest = expect(Symbol::OpenBrace, text, rest)?;
-    let name = name_of(alloc, word(text, place.start, place.end))?;
+    let name = name_of(alloc, place.word(text))?;
     Ok((Function { name, params }, rest))
 }
 
@@ -76,7 +78,8 @@ fn start_of<'s>(
     text: &[u8],
     ts: &'s [Terminal],
 ) -> Result<(Start, &'s [Terminal]), ParseError>
-    ensures { Gives (λ x. (start_seen x.0, all_seen text.now x.1.now)) result (spec.start_at c kind (all_seen text.now ts.entry.now)) }
+    ensures { Gives (λ x. (start_seen x.0, all_seen text.now x.1.now)) result
+        (spec.start_at c kind (all_seen text.now ts.entry.now)) }
 {
     let (ranges, rest) = ranges(alloc, c, text, ts)?;
     let rest = expect(kind, text, rest)?;
@@ -94,7 +97,7 @@ fn start_of<'s>(
 
 /// A unit of these parts.
 fn made(start: Start, version: Option<u8>, wides: NameList, body: Stmts) -> Unit
-    ensures { t.unit result ≡ record { version = version; ranges = (start_seen start).ranges; name = (start_seen start).name; params = (start_seen start).params; words = (start_seen start).words; wides = names.words wides; body = t.stmts body } }
+    ensures { t.unit result ≡ unit_seen (start_seen start) version (names.words wides) (t.stmts body) }
 {
     Unit {
         version,
@@ -114,7 +117,8 @@ fn source<'s>(
     text: &[u8],
     ts: &'s [Terminal],
 ) -> Result<(Unit, &'s [Terminal]), ParseError>
-    ensures { Gives (λ x. (t.unit x.0, all_seen text.now x.1.now)) result (spec.source_at c (all_seen text.now ts.entry.now)) }
+    ensures { Gives (λ x. (t.unit x.0, all_seen text.now x.1.now)) result
+        (spec.source_at c (all_seen text.now ts.entry.now)) }
 {
     let (start, rest) = start_of(alloc, c, Symbol::Void, text, ts)?;
     let (body, rest) = block(alloc, c, statement_limit(c.printed), text, rest)?;
@@ -128,7 +132,9 @@ fn both_halves<'s>(
     text: &[u8],
     ts: &'s [Terminal],
 ) -> Result<(Halves, &'s [Terminal]), ParseError>
-    ensures { Gives (λ x. ((t.stmts x.0.before, t.stmts x.0.behind), all_seen text.now x.1.now)) result (spec.halves_at c (all_seen text.now ts.entry.now)) }
+    ensures { Gives (λ x. ((t.stmts x.0.before, t.stmts x.0.behind), all_seen text.now x.1.now))
+        result
+        (spec.halves_at c (all_seen text.now ts.entry.now)) }
 {
     let begin = [
         Wanted::Mark(Symbol::Directive),
@@ -143,7 +149,8 @@ fn both_halves<'s>(
 
 /// All statements in one list, `begin` and the verdict among them.
 fn joined(halves: Halves) -> Result<Stmts, OutOfMemory>
-    ensures { IfOk result (λ list. t.stmts list ≡ chain (t.stmts halves.before) (plain.more_stmts plain.begin (chain (t.stmts halves.behind) (one plain.verdict)))) }
+    ensures { IfOk result (λ list. t.stmts list ≡ chain (t.stmts halves.before)
+        (plain.more_stmts plain.begin (chain (t.stmts halves.behind) (one plain.verdict)))) }
 {
     let Halves {
         before: mut list,
@@ -164,7 +171,8 @@ fn printed_body<'s>(
     text: &[u8],
     ts: &'s [Terminal],
 ) -> Result<(Stmts, &'s [Terminal]), ParseError>
-    ensures { Gives (λ x. (t.stmts x.0, all_seen text.now x.1.now)) result (spec.printed_body c arrays (all_seen text.now ts.entry.now)) }
+    ensures { Gives (λ x. (t.stmts x.0, all_seen text.now x.1.now)) result
+        (spec.printed_body c arrays (all_seen text.now ts.entry.now)) }
 {
     let (halves, rest) = both_halves(alloc, c, text, ts)?;
     let rest = verdict(arrays, text, rest)?;
@@ -185,7 +193,8 @@ fn printed<'s>(
     text: &[u8],
     ts: &'s [Terminal],
 ) -> Result<(Unit, &'s [Terminal]), ParseError>
-    ensures { Gives (λ x. (t.unit x.0, all_seen text.now x.1.now)) result (spec.printed_at c (all_seen text.now ts.entry.now)) }
+    ensures { Gives (λ x. (t.unit x.0, all_seen text.now x.1.now)) result
+        (spec.printed_at c (all_seen text.now ts.entry.now)) }
 {
     let version = [
         Wanted::Mark(Symbol::Directive),
@@ -220,7 +229,9 @@ fn unit_by_front<'s>(
     text: &[u8],
     ts: &'s [Terminal],
 ) -> Result<(Unit, &'s [Terminal]), ParseError>
-    ensures { Gives (λ x. (t.unit x.0, all_seen text.now x.1.now)) result (spec.unit_by turns (all_seen text.now ts.entry.now) (reading.expect s.Preamble (all_seen text.now ts.entry.now))) }
+    ensures { Gives (λ x. (t.unit x.0, all_seen text.now x.1.now)) result
+        (spec.unit_by turns (all_seen text.now ts.entry.now)
+        (reading.expect s.Preamble (all_seen text.now ts.entry.now))) }
 {
     match after(Symbol::Preamble, text, ts) {
         Some(behind) => printed(alloc, rules_of(true, turns), text, behind),

@@ -28,7 +28,8 @@ pub fn arrays_among(params: &[Param]) -> usize
 
 /// `(uint64_t)(bal_def0 != bal_use0) << 0` for an array's number.
 fn pair<'s>(array: u64, text: &[u8], ts: &'s [Terminal]) -> Result<&'s [Terminal], ParseError>
-    ensures { Gives (λ r. all_seen text.now r.now) result (heads.fixed (grammar.pair_tokens array) (all_seen text.now ts.entry.now)) }
+    ensures { Gives (λ r. all_seen text.now r.now) result
+        (heads.fixed (grammar.pair_tokens array) (all_seen text.now ts.entry.now)) }
 {
     let tokens = [
         Wanted::Mark(Symbol::OpenParen),
@@ -48,7 +49,8 @@ fn pair<'s>(array: u64, text: &[u8], ts: &'s [Terminal]) -> Result<&'s [Terminal
 /// A pair for each array, with `|` between them; `0` for no array.
 #[tactic(auto, using(crate::proofs::Pairs::totals_none, crate::proofs::Pairs::totals_some, crate::proofs::Pairs::pairs_at, crate::proofs::Pairs::pairs_end))]
 fn totals<'s>(arrays: usize, text: &[u8], ts: &'s [Terminal]) -> Result<&'s [Terminal], ParseError>
-    ensures { Gives (λ r. all_seen text.now r.now) result (spec.totals_at arrays (all_seen text.now ts.entry.now)) }
+    ensures { Gives (λ r. all_seen text.now r.now) result
+        (spec.totals_at arrays (all_seen text.now ts.entry.now)) }
 {
     if arrays == 0 {
         return fixed(&[Wanted::Number(0)], text, ts);
@@ -68,7 +70,8 @@ pub fn verdict<'s>(
     text: &[u8],
     ts: &'s [Terminal],
 ) -> Result<&'s [Terminal], ParseError>
-    ensures { Gives (λ r. all_seen text.now r.now) result (spec.verdict_at arrays (all_seen text.now ts.entry.now)) }
+    ensures { Gives (λ r. all_seen text.now r.now) result
+        (spec.verdict_at arrays (all_seen text.now ts.entry.now)) }
 {
     let value = expect(Symbol::Return, text, ts)?;
     let close = totals(arrays, text, value)?;

@@ -8,7 +8,7 @@ ghost use Rattle.grammar_reading.specs.HeadReading as spec;
 ghost use Rattle.c_parser.specs.Wanted.{lexeme, lexemes};
 
 use c_tree::Symbol;
-use expression_parser::{ParseError, Terminal, expect, word};
+use expression_parser::{ParseError, Terminal, expect};
 use itoa::Buffer;
 use statement_parser::{Span, name, this_name, this_number};
 
@@ -44,10 +44,11 @@ fn this_total<'s>(
     text: &[u8],
     ts: &'s [Terminal],
 ) -> Result<&'s [Terminal], ParseError>
-    ensures { Gives (λ r. all_seen text.now r.now) result (blocks.this_name (front.now ++ decimal array) (all_seen text.now ts.entry.now)) }
+    ensures { Gives (λ r. all_seen text.now r.now) result
+        (blocks.this_name (front.now ++ decimal array) (all_seen text.now ts.entry.now)) }
 {
     let (place, rest) = name(text, ts)?;
-    if is_numbered(word(text, place.start, place.end), front, array) {
+    if is_numbered(place.word(text), front, array) {
         Ok(rest)
     } else {
         Err(ParseError::Syntax(ts.len()))
@@ -57,13 +58,14 @@ fn this_total<'s>(
 impl Wanted {
     #[tactic(auto, unfolding(grammar_reading::specs::HeadReading::this))]
     fn read<'s>(self, text: &[u8], ts: &'s [Terminal]) -> Result<&'s [Terminal], ParseError>
-        ensures { Gives (λ r. all_seen text.now r.now) result (spec.this (lexeme text.now self) (all_seen text.now ts.entry.now)) }
+        ensures { Gives (λ r. all_seen text.now r.now) result
+            (spec.this (lexeme text.now self) (all_seen text.now ts.entry.now)) }
     {
         match self {
             Wanted::Mark(symbol) => expect(symbol, text, ts),
             Wanted::Number(n) => this_number(n, text, ts),
             Wanted::Word(wanted) => this_name(wanted, text, ts),
-            Wanted::Name(place) => this_name(word(text, place.start, place.end), text, ts),
+            Wanted::Name(place) => this_name(place.word(text), text, ts),
             Wanted::Total(front, array) => this_total(front, array, text, ts),
         }
     }
@@ -76,7 +78,8 @@ pub fn fixed<'s>(
     text: &[u8],
     ts: &'s [Terminal],
 ) -> Result<&'s [Terminal], ParseError>
-    ensures { Gives (λ r. all_seen text.now r.now) result (spec.fixed (lexemes text.now tokens.now) (all_seen text.now ts.entry.now)) }
+    ensures { Gives (λ r. all_seen text.now r.now) result
+        (spec.fixed (lexemes text.now tokens.now) (all_seen text.now ts.entry.now)) }
 {
     let mut rest = ts;
     for token in tokens {
