@@ -50,8 +50,7 @@ pub record Laws : Type 0 where
 
 printed_text : Laws → (source : PlainUnit) → IsOneLoop source → (output : Output) × IsPrinted source output
 printed_text laws source form =
-    let worth = laws.guards source form in
-    (
+    let worth = laws.guards source form in (
       record { text = layout (guarded source); finish = Done },
       record {
         unit = guarded source;
@@ -108,8 +107,7 @@ shown_end r = (
 run_text : (source : PlainUnit) (inputs : PlainInputs) → (output : Output) × IsRun source inputs output
 run_text source inputs =
     let r = run.run source inputs None in
-    let shown = shown_end r in
-    (
+    let shown = shown_end r in (
       record { text = output_text (frame_in source) shown.0; finish = finish_of r.verdict },
       record { ended = shown.0; is = shown.1; text = refl; finish = refl },
     )
@@ -118,8 +116,7 @@ tried_text : Laws → (source : PlainUnit) (inputs : PlainInputs) → IsOneLoop 
 tried_text laws source inputs form =
     let r = run.run (guarded source) inputs None in
     let shown = shown_end r in
-    let worth = laws.guards source form in
-    (
+    let worth = laws.guards source form in (
       record { text = output_text (frame_in source) shown.0; finish = finish_of r.verdict },
       record {
         unit = guarded source;
@@ -181,11 +178,10 @@ read_ending : (head : PlainUnit) (text : List ℕ) (next : PlainInputs → Plan)
 unfolding Defined
 read_ending head text next files (inl (i, means)) more =
     let rest = more (inputs_in i) in (rest.0, inr (inputs_in i, record { means = means }, rest.1))
-read_ending head text next files (inr (why, refused)) more =
-    (
-      Err (DataRefused (data_refusal_text (frame_in head) why)),
-      inl (why, record { answers = refused.answers; own = refused.cause }, refl),
-    )
+read_ending head text next files (inr (why, refused)) more = (
+  Err (DataRefused (data_refusal_text (frame_in head) why)),
+  inl (why, record { answers = refused.answers; own = refused.cause }, refl),
+)
 
 pub some_ending : Laws → (plan : Plan) (files : List (List ℕ × List ℕ)) → HasForms plan → HasDefined plan files
 unfolding Defined
@@ -197,7 +193,7 @@ some_ending laws (print_unit source) files forms =
     let output = printed_text laws source forms in (Ok output.0, (output.0, output.1, refl))
 some_ending laws (read head text next) files forms =
     read_ending head text next files (laws.some_answer (frame_in head) text (frame_of_form head forms.0).names)
-        (λ inputs. some_ending laws (next inputs) files (forms.1 inputs))
+    (λ inputs. some_ending laws (next inputs) files (forms.1 inputs))
 some_ending laws (run_unit source inputs) files forms = let output = run_text source inputs in (Ok output.0, (output.0, output.1, refl))
 some_ending laws (try_unit source inputs) files forms =
     let output = tried_text laws source inputs forms in (Ok output.0, (output.0, output.1, refl))

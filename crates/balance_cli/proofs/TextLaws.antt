@@ -110,7 +110,7 @@ Judged kind text = ((a : PlainUnit) × Accepts text a) ⊎ ((why : Refusal) × R
 
 of_unit : TextLaws → (kind : Wanted) (text : List ℕ) → (kind ≡ Source → is_printed text ≡ false) → (a : PlainUnit) → IsText text a → IsOneLoop a ⊎ (IsOneLoop a → ⊥) → Judged kind text
 of_unit laws kind text plain a is (inl form) = inl (a, record { is_text = is; one_loop = form })
-of_unit laws Source text plain a is (inr other) = inr (refusal.Unbuilt, plain refl, record { unit = a; is_text = is; other = other })
+of_unit laws Source text plain a is (inr other) = inr (refusal.Unbuilt, (plain refl, record { unit = a; is_text = is; other = other }))
 of_unit laws AnyText text plain a is (inr other) = inr (refusal.Unbuilt, record { unit = a; is_text = is; other = other })
 
 without : (text : List ℕ) (ts : List Token) → AreTokens text ts → ((a : PlainUnit) → IsText text a → ⊥) → HasNoUnit text (length text)
