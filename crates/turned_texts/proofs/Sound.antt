@@ -19,7 +19,7 @@ parts = record {
   last = minus 1;
   target = plus 1;
   item = element bare;
-  items = element (plus 1) ∷ [];
+  items = element bare ∷ element (plus 1) ∷ [];
 }
 
 allowed : IsAllowed parts
@@ -37,7 +37,7 @@ allowed = record {
   first = lit≤ tt;
   last = lit≤ tt;
   target = lit≤ tt;
-  each = (tt, (lit≤ tt, tt));
+  each = (tt, (tt, (lit≤ tt, tt)));
   few = lit≤ tt;
   few_cells = lit≤ tt;
 }
@@ -51,7 +51,7 @@ sums_sound = record {
     ints = ((omega (arith, ints), omega (arith, ints)), tt);
     cells = (record { count = refl; few = lit≤ tt; small = (lit< tt, (lit< tt, (lit< tt, tt))) }, tt);
   };
-  clean = clean_is (arrays_for sums one_to_three.ints) (core sums one_to_three.ints (memory_for sums one_to_three)) (refl, (refl, (refl, (refl, (refl, (refl, tt))))));
+  clean = clean_is (arrays_for sums one_to_three.ints) (core sums one_to_three.ints (memory_for sums one_to_three)) (refl, (refl, (refl, (refl, (refl, (refl, (refl, (refl, tt))))))));
   few = lit< tt;
 }
 

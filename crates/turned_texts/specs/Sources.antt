@@ -17,14 +17,14 @@ a at = element (codes "A") at
 abbrev pub next : PlainExpr
 next = bin Add (var i) (lit 1)
 
--- A[i + 1] = A[i] + A[i + 1] for i < n - 1: running sums, of the one-loop form
+-- A[i + 1] = A[i] + A[i] + A[i + 1] for i < n - 1, of the one-loop form
 abbrev pub sums : PlainUnit
 sums = record (source (codes "sums") (int_param n ∷ array_of (codes "A") (var n) ∷ [])
-    (for_below i (bin Sub (var n) (lit 1)) (set (a next) (bin Add (a (var i)) (a next)) ∷ []) ∷ []))
+    (for_below i (bin Sub (var n) (lit 1)) (set (a next) (bin Add (bin Add (a (var i)) (a (var i))) (a next)) ∷ []) ∷ []))
     { ranges = (n, pos 1, pos 1000) ∷ [] }
 
 -- n = 3 and A = 1 2 3. The accesses, with their values:
--- read A[0] 1, read A[1] 2, write A[1] 3, read A[1] 3, read A[2] 3, write A[2] 6
+-- read A[0] 1 and 1, read A[1] 2, write A[1] 4, read A[1] 4 and 4, read A[2] 3, write A[2] 11
 abbrev pub one_to_three : PlainInputs
 one_to_three = inputs (pos 3 ∷ []) ((1 ∷ 2 ∷ 3 ∷ []) ∷ [])
 

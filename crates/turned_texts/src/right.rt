@@ -10,7 +10,7 @@ ghost use Rattle.turned_texts.specs.Sources.{sums, one_to_three, fill, five};
 ghost use Rattle.turned_texts.specs.Turning.{unchanged, with_assignments, with_turned_pieces};
 ghost use Rattle.turned_texts.specs.Texts.{same_piece};
 
-/// The instrumented running sums keep every promise, and with nothing turned both ways give them.
+/// The text of the one-loop source keeps every promise, and with nothing turned both ways give that text.
 pub fn sums_are_guarded()
     ensures guards { GuardsInDetail sums (guarded sums) }
     ensures assignments { with_assignments unchanged sums ≡ guarded sums }
@@ -26,6 +26,5 @@ pub fn fill_is_told()
     ensures sound { IsSound fill five }
     ensures calm { (run (guarded fill) five None).verdict ≡ balanced }
     ensures totals { (run (guarded fill) five None).totals ≡ (0, 0) ∷ (10, 10) ∷ [] }
-    ensures lowest_bit { (run (guarded fill) five (fault_at 1 0 0 0)).verdict ≡ fault (1 ∷ []) }
-    ensures highest_bit { (run (guarded fill) five (fault_at 1 0 63 0)).verdict ≡ fault (1 ∷ []) }
+    ensures told { (run (guarded fill) five (fault_at 1 0 0 0)).verdict ≡ fault (1 ∷ []) }
 {}

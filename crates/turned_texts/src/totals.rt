@@ -23,5 +23,5 @@ pub fn arrays_have_totals()
 
 /// With totals of 64 bits, a fault in the highest bit of a cell that is read twice isn't reported.
 pub fn totals_are_wide()
-    ensures { ¬ ReportsExactly fill (masks_totals fill) }
+    ensures { ¬ ReportsExactly sums (masks_totals sums) }
 {}

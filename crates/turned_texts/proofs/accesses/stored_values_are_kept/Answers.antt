@@ -10,8 +10,8 @@ use Rattle.turned_texts.proofs.accesses.stored_values_are_kept.Goals as goal
 
 pub returns-clause-accesses : goal.returns-clause-accesses
 unfolding int_wrap digits register result count definition_total use_total coordinate pass_variable active counter function_name
-returns-clause-accesses c = λ same. let e : 8 ≡ 6 = ap length (same one_to_three sums_sound) in absurd (omega (arith, e))
+returns-clause-accesses c = λ same. let e : 10 ≡ 8 = ap length (same one_to_three sums_sound) in absurd (omega (arith, e))
 
 pub returns-clause-reports : goal.returns-clause-reports
 unfolding int_wrap digits disturbed register result count definition_total use_total coordinate pass_variable active counter function_name
-returns-clause-reports c = λ exact. (exact one_to_three (in_sums 1 3) sums_sound third_fits).1 third_is_read
+returns-clause-reports c = λ exact. (exact one_to_three (in_sums 1 0 4) sums_sound third_fits).1 third_is_read

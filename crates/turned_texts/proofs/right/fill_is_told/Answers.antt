@@ -13,10 +13,6 @@ pub returns-clause-totals : goal.returns-clause-totals
 unfolding int_wrap digits register result count definition_total use_total coordinate pass_variable active counter function_name
 returns-clause-totals c = refl
 
-pub returns-clause-lowest_bit : goal.returns-clause-lowest_bit
+pub returns-clause-told : goal.returns-clause-told
 unfolding int_wrap digits disturbed register result count definition_total use_total coordinate pass_variable active counter function_name
-returns-clause-lowest_bit c = refl
-
-pub returns-clause-highest_bit : goal.returns-clause-highest_bit
-unfolding int_wrap digits disturbed register result count definition_total use_total coordinate pass_variable active counter function_name
-returns-clause-highest_bit c = refl
+returns-clause-told c = refl

@@ -1,4 +1,4 @@
-use Rattle.std.proofs.Common.{◌≡◌, ℕ, List, [], ◌∷◌, ap, arith}
+use Rattle.std.proofs.Common.{◌≡◌, ℕ, List, [], ◌∷◌, ap, arith, lit<}
 use Rattle.std.specs.Int.{int_wrap}
 use Rattle.std.specs.Fmt.{digits}
 use Rattle.c_tree.specs.Fault.{disturbed}
@@ -16,8 +16,8 @@ first_definition (pair ∷ more) = pair.0
 
 pub returns-clause-reports : goal.returns-clause-reports
 unfolding int_wrap digits disturbed register result count definition_total use_total coordinate pass_variable active counter function_name
-returns-clause-reports c = λ exact. (exact one_to_three (in_sums 0 0) sums_sound first_fits).1 first_is_read
+returns-clause-reports c = λ exact. (exact one_to_three (in_sums 0 0 0) sums_sound (first_fits 0 (lit< tt))).1 (first_is_read 0)
 
 pub returns-clause-totals : goal.returns-clause-totals
 unfolding int_wrap digits latest sum_below uses sum_cells definition_sum use_sum register result count definition_total use_total coordinate pass_variable active counter function_name
-returns-clause-totals c = λ has. let e : 0 ≡ 9 = ap first_definition (has one_to_three sums_sound) in absurd (omega (arith, e))
+returns-clause-totals c = λ has. let e : 0 ≡ 15 = ap first_definition (has one_to_three sums_sound) in absurd (omega (arith, e))
