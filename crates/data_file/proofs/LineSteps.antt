@@ -1,24 +1,20 @@
 -- Lines: the first line of a text, and what follows it.
-use Rattle.std.proofs.Common.{◌≡◌, ℕ, ◌+◌, ◌<◌, List, [], ◌∷◌, ◌++◌, length, Bool, true, false, cond, not, nat_eq, if◌then◌else◌, refl, sym, ap, ◌∙◌, arith, one-add, length-append, append-nil, subst}
+use Rattle.std.proofs.Common.{◌≡◌, ℕ, ◌+◌, ◌<◌, List, [], ◌∷◌, ◌++◌, length, Bool, true, false, cond, nat_eq, if◌then◌else◌, refl, sym, ap, ◌∙◌, arith, length-append, append-nil, subst}
 use Rattle.std.proofs.lemmas.Bool.Decides.{nat_tests}
-use Rattle.std.proofs.lemmas.List.{take-append-drop}
-use Rattle.std.specs.List.{AllByRecursion, prefix_len, slice_split, onto_first}
+use Rattle.std.specs.List.{slice_split, onto_first}
 use Rattle.std.specs.Str.Lines.{lines, lines_of_parts}
-use Rattle.data_file.specs.Reading.{run, behind, is_in_line, without_return, line_by, rest_by, first_line, after_line}
+use Rattle.text_pieces.specs.Fronts.{run, behind, is_in_line}
+use Rattle.text_pieces.proofs.Runs.{begins, run-behind, run_passes, behind_stops}
+use Rattle.data_file.specs.Reading.{without_return, line_by, rest_by, first_line, after_line}
+use Rattle.data_file.proofs.Fronts.{Passes, Passes-from_list_all, not_true}
 
-parts_by : (front rest : List ℕ) → AllByRecursion (λ b. is_in_line b ≡ true) front → slice_split (λ b. nat_eq b 10) (front ++ 10 ∷ rest) ≡ front ∷ slice_split (λ b. nat_eq b 10) rest
+parts_by : (front rest : List ℕ) → Passes is_in_line front → slice_split (λ b. nat_eq b 10) (front ++ 10 ∷ rest) ≡ front ∷ slice_split (λ b. nat_eq b 10) rest
 parts_by [] rest p = refl
-parts_by (b ∷ bs) rest p = let no : nat_eq b 10 ≡ false = not_true (nat_eq b 10) p.0 in rw (no, parts_by bs rest p.1) refl where
-  not_true : (v : Bool) → not v ≡ true → v ≡ false
-  not_true true e = absurd (let no : ⊥ = cc in no)
-  not_true false e = refl
+parts_by (b ∷ bs) rest p = let no : nat_eq b 10 ≡ false = not_true (nat_eq b 10) p.0 in rw (no, parts_by bs rest p.1) refl
 
-one_part : (front : List ℕ) → AllByRecursion (λ b. is_in_line b ≡ true) front → slice_split (λ b. nat_eq b 10) front ≡ front ∷ []
+one_part : (front : List ℕ) → Passes is_in_line front → slice_split (λ b. nat_eq b 10) front ≡ front ∷ []
 one_part [] p = refl
-one_part (b ∷ bs) p = let no : nat_eq b 10 ≡ false = not_true (nat_eq b 10) p.0 in rw (no, one_part bs p.1) refl where
-  not_true : (v : Bool) → not v ≡ true → v ≡ false
-  not_true true e = absurd (let no : ⊥ = cc in no)
-  not_true false e = refl
+one_part (b ∷ bs) p = let no : nat_eq b 10 ≡ false = not_true (nat_eq b 10) p.0 in rw (no, one_part bs p.1) refl
 
 more_parts : (first : List ℕ) (rest : List ℕ) → lines_of_parts (first ∷ slice_split (λ b. nat_eq b 10) rest) ≡ without_return first ∷ lines rest
 more_parts first [] = refl
@@ -33,34 +29,20 @@ more_parts first (b ∷ bs) = at (slice_split (λ c. nat_eq c 10) (b ∷ bs)) (s
   at (p ∷ ps) pos = refl
 
 -- a line and its line feed stand at the front
-pub lines-line : (front rest : List ℕ) → AllByRecursion (λ b. is_in_line b ≡ true) front → lines (front ++ 10 ∷ rest) ≡ without_return front ∷ lines rest
+pub lines-line : (front rest : List ℕ) → Passes is_in_line front → lines (front ++ 10 ∷ rest) ≡ without_return front ∷ lines rest
 lines-line front rest p = ap lines_of_parts (parts_by front rest p) ∙ more_parts front rest
 
-lines-last : (front : List ℕ) → 0 < length front → AllByRecursion (λ b. is_in_line b ≡ true) front → lines front ≡ front ∷ []
+lines-last : (front : List ℕ) → 0 < length front → Passes is_in_line front → lines front ≡ front ∷ []
 lines-last [] pos p = absurd (omega arith)
 lines-last (b ∷ bs) pos p =
     let long : nat_eq (length (b ∷ bs)) 0 ≡ false = grind (arith, nat_tests) in
     ap lines_of_parts (one_part (b ∷ bs) p) ∙ ap (λ v. if v then [] else (b ∷ bs) ∷ []) long
 
-run_passes : (test : ℕ → Bool) (text : List ℕ) → AllByRecursion (λ b. test b ≡ true) (run test text)
-run_passes test [] = tt
-run_passes test (b ∷ bs) = first (test b) refl (run_passes test bs) where
-  first : (v : Bool) → test b ≡ v → AllByRecursion (λ c. test c ≡ true) (run test bs) → AllByRecursion (λ c. test c ≡ true) (run test (b ∷ bs))
-  first true e others = rw (e, one-add) (e, others)
-  first false e others = rw e tt
-
-run-behind : (test : ℕ → Bool) (text : List ℕ) → text ≡ run test text ++ behind test text
-run-behind test text = sym (take-append-drop (prefix_len test text) text)
-
 -- what follows the longest front begins with another byte
 stops : (text : List ℕ) (b : ℕ) (rest : List ℕ) → behind is_in_line text ≡ b ∷ rest → b ≡ 10
-stops [] b rest e = absurd (let no : ⊥ = cc in no)
-stops (c ∷ cs) b rest e = at (is_in_line c) refl (stops cs b rest) e where
-  at : (v : Bool) → is_in_line c ≡ v → (behind is_in_line cs ≡ b ∷ rest → b ≡ 10) → behind is_in_line (c ∷ cs) ≡ b ∷ rest → b ≡ 10
-  at true h go e = go (rw (h, one-add) at e)
-  at false h go e = grind arith
+stops text b rest e = let stop : is_in_line b ≡ false = ap (begins is_in_line) (sym e) ∙ behind_stops is_in_line text in grind (arith, nat_tests)
 
-by_rest : (text front rest : List ℕ) → text ≡ front ++ rest → AllByRecursion (λ b. is_in_line b ≡ true) front → ((b : ℕ) (more : List ℕ) → rest ≡ b ∷ more → b ≡ 10) → 0 < length text → lines text ≡ line_by front rest ∷ lines (rest_by rest)
+by_rest : (text front rest : List ℕ) → text ≡ front ++ rest → Passes is_in_line front → ((b : ℕ) (more : List ℕ) → rest ≡ b ∷ more → b ≡ 10) → 0 < length text → lines text ≡ line_by front rest ∷ lines (rest_by rest)
 by_rest text front [] same p ten pos =
     let whole : text ≡ front = same ∙ append-nil front in
     let long : 0 < length front = subst (λ (z : List ℕ). 0 < length z) whole pos in
@@ -69,7 +51,7 @@ by_rest text front (b ∷ more) same p ten pos =
     ap lines (same ∙ ap (λ c. front ++ c ∷ more) (ten b more refl)) ∙ lines-line front more p
 
 pub lines_step : (text : List ℕ) → 0 < length text → lines text ≡ first_line text ∷ lines (after_line text)
-lines_step text pos = by_rest text (run is_in_line text) (behind is_in_line text) (run-behind is_in_line text) (run_passes is_in_line text) (stops text) pos
+lines_step text pos = by_rest text (run is_in_line text) (behind is_in_line text) (run-behind is_in_line text) (Passes-from_list_all is_in_line (run is_in_line text) (run_passes is_in_line text)) (stops text) pos
 
 pub after_line_shorter : (text : List ℕ) → 0 < length text → length (after_line text) < length text
 after_line_shorter text pos = by (behind is_in_line text) (ap length (run-behind is_in_line text) ∙ length-append (run is_in_line text) (behind is_in_line text)) where

@@ -7,20 +7,23 @@ use Rattle.std.proofs.lemmas.Option.{same_Some, cond_some}
 use Rattle.std.proofs.lemmas.Fmt.{decimal_nonempty}
 use Rattle.std.proofs.Math.Seq.{take-append_seam, drop-append_seam}
 use Rattle.std.specs.Fmt.{decimal, signed_decimal}
+use Rattle.std.specs.List.{list_all}
 use Rattle.c_tree.specs.Reserved.{is_digit}
+use Rattle.text_pieces.specs.Fronts.{run, behind}
+use Rattle.text_pieces.specs.Numbers.{decimal_in}
+use Rattle.text_pieces.proofs.Runs.{begins, run-behind, run_passes, behind_stops, run-front, behind-front, list_all-implies}
 use Rattle.data_file.specs.Meaning.{is_gap, IsGap, Spells}
-use Rattle.data_file.specs.Reading.{run, behind, strip, strip_end, word_of, is_solid, more_by, cells_in, cells_of, last_equals, at_equals, parted}
-use Rattle.data_file.proofs.Fronts.{bind_is, not_true, Passes, begins, Passes-append, run-behind, run_passes, behind_stops, run-front, behind-front, strip_is, strip-front, strip_end_is, strip_end-end}
-use Rattle.data_file.proofs.Decimals.{digit_is, decimal_passes, word_of_is, word_of-decimal}
+use Rattle.data_file.specs.Reading.{strip, strip_end, is_solid, more_by, cells_in, cells_of, last_equals, at_equals, parted}
+use Rattle.data_file.proofs.Fronts.{bind_is, not_true, Passes, Passes-append, list_all-from_Passes, Passes-from_list_all, strip_is, strip-front, strip_end_is, strip_end-end}
+use Rattle.data_file.proofs.Decimals.{digit_is, decimal_passes, decimal_in_is, decimal_in-decimal}
 
 -- ---- cells
 
 solid_digit : (b : ℕ) → is_digit b ≡ true → is_solid b ≡ true
 solid_digit b h = grind (arith, nat_tests, digit_is b h)
 
-solid_digits : (ds : List ℕ) → Passes is_digit ds → Passes is_solid ds
-solid_digits [] p = tt
-solid_digits (b ∷ bs) p = (solid_digit b p.0, solid_digits bs p.1)
+solid_digits : (ds : List ℕ) → Passes is_digit ds → list_all is_solid ds ≡ true
+solid_digits ds p = list_all-implies is_digit is_solid solid_digit ds (list_all-from_Passes is_digit ds p)
 
 no_gap : (b : ℕ) → is_solid b ≡ true → is_gap b ≡ false
 no_gap b h = not_true (is_gap b) h
@@ -37,7 +40,7 @@ spelled_by k n (b ∷ bs) ns go stop fits h =
     with_more ms (go (behind is_gap (b ∷ bs)) ms read) (same_Some (n ∷ ms) ns same)
   where
     gap : IsGap (run is_gap (b ∷ bs))
-    gap = record { some = long (is_gap b) refl; blank = run_passes is_gap (b ∷ bs) } where
+    gap = record { some = long (is_gap b) refl; blank = Passes-from_list_all is_gap (run is_gap (b ∷ bs)) (run_passes is_gap (b ∷ bs)) } where
       long : (v : Bool) → is_gap b ≡ v → 0 < length (run is_gap (b ∷ bs))
       long true e = rw (e, one-add) (omega arith)
       long false e = absurd (let no : ⊥ = let yes = no_solid (is_gap b) stop in cc in no)
@@ -51,8 +54,8 @@ cells_in_is : (k : ℕ) (text ns : List ℕ) → cells_in k text ≡ Some ns →
 unfolding cells_in
 cells_in_is zero text ns h = absurd (let no : ⊥ = cc in no)
 cells_in_is (suc k) text ns h =
-    let (n, read, more) = bind_is _ (word_of (run is_solid text)) ns h in
-    let (digits, fits) = word_of_is n (run is_solid text) read in
+    let (n, read, more) = bind_is _ (decimal_in (run is_solid text)) ns h in
+    let (digits, fits) = decimal_in_is n (run is_solid text) read in
     let same : text ≡ decimal n ++ behind is_solid text = run-behind is_solid text ∙ ap (λ z. z ++ behind is_solid text) digits in
     subst (Spells ns) (sym same) (spelled_by k n (behind is_solid text) ns (cells_in_is k) (behind_stops is_solid text) fits more)
 
@@ -77,7 +80,7 @@ stops_gap (b ∷ bs) rest g = rw g.blank.0 refl
 
 more-gap : (k n : ℕ) (gap rest : List ℕ) → IsGap gap → begins is_gap rest ≡ false → more_by (cells_in k) n (gap ++ rest) ≡ option_and_then (λ (ms : List ℕ). Some (n ∷ ms)) (cells_in k rest)
 more-gap k n [] rest g stop = absurd (let h = g.some in omega arith)
-more-gap k n (b ∷ bs) rest g stop = ap (λ z. option_and_then (λ (ms : List ℕ). Some (n ∷ ms)) (cells_in k z)) (behind-front is_gap (b ∷ bs) rest g.blank stop)
+more-gap k n (b ∷ bs) rest g stop = ap (λ z. option_and_then (λ (ms : List ℕ). Some (n ∷ ms)) (cells_in k z)) (behind-front is_gap (b ∷ bs) rest (list_all-from_Passes is_gap (b ∷ bs) g.blank) stop)
 
 cells_in-spelled : (k : ℕ) (ns text : List ℕ) → Spells ns text → length text ≤ k → cells_in k text ≡ Some ns
 unfolding cells_in
@@ -87,7 +90,7 @@ cells_in-spelled zero (n ∷ m ∷ ns) text s le = absurd (omega (arith, ap leng
 cells_in-spelled (suc k) (n ∷ []) text s le =
     let digits = solid_digits (decimal n) (decimal_passes n s.0) in
     let same : text ≡ decimal n ++ [] = s.1 ∙ sym (append-nil (decimal n)) in
-    rw (same, run-front is_solid (decimal n) [] digits refl, behind-front is_solid (decimal n) [] digits refl, word_of-decimal n s.0) refl
+    rw (same, run-front is_solid (decimal n) [] digits refl, behind-front is_solid (decimal n) [] digits refl, decimal_in-decimal n s.0) refl
 cells_in-spelled (suc k) (n ∷ m ∷ ns) text s le =
     let gap = s.1 in
     let rest = s.2 in
@@ -95,7 +98,7 @@ cells_in-spelled (suc k) (n ∷ m ∷ ns) text s le =
     let stop = stops_gap gap rest s.3 in
     let below : length rest ≤ k = omega (arith, ap length s.4, decimal_nonempty n s.0, length-append (decimal n) (gap ++ rest), length-append gap rest, le) in
     let others = cells_in-spelled k (m ∷ ns) rest s.5 below in
-    rw (s.4, run-front is_solid (decimal n) (gap ++ rest) digits stop, behind-front is_solid (decimal n) (gap ++ rest) digits stop, word_of-decimal n s.0)
+    rw (s.4, run-front is_solid (decimal n) (gap ++ rest) digits stop, behind-front is_solid (decimal n) (gap ++ rest) digits stop, decimal_in-decimal n s.0)
     (more-gap k n gap rest s.3 (begins_spelled (m ∷ ns) rest s.5) ∙ ap (option_and_then (λ (ms : List ℕ). Some (n ∷ ms))) others)
 
 pub cells_of-spelled : (ns text : List ℕ) → Spells ns text → cells_of text ≡ Some ns

@@ -13,11 +13,12 @@ use Rattle.c_tree.specs.declared.name.Name.{Name}
 use Rattle.c_tree.specs.declared.frame.Frame.{Frame}
 use Rattle.c_tree.specs.declared.frame.ArrayInfo.{ArrayInfo}
 use Rattle.c_tree.specs.declared.frame.Inputs.{Inputs}
+use Rattle.text_pieces.specs.Fronts.{is_in_line}
 use Rattle.data_file.specs.declared.row.Row.{Row}
 use Rattle.data_file.specs.declared.row.Row.TheVariants.{Value, Cells}
 use Rattle.data_file.specs.Laws.{CanBeWritten, HasNamesInLines}
 use Rattle.data_file.specs.Meaning.{Spells, IsRow, AreRows, rows_of, Means}
-use Rattle.data_file.specs.Reading.{is_in_line, without_return}
+use Rattle.data_file.specs.Reading.{without_return}
 use Rattle.data_file.specs.Texts.{paired, cell_text, parameter_text, array_text, data_text}
 use Rattle.data_file.proofs.Decimals.{digit_is, decimal_passes}
 use Rattle.data_file.proofs.Fronts.{Passes, Passes-append, not_true}

@@ -1,10 +1,11 @@
 -- Reading a data file: each function gives what the code gives, or None where the bytes aren't of the form.
-use Rattle.std.specs.Prelude.{ℕ, zero, suc, ◌+◌, ◌-◌, ◌*◌, ◌^◌, Bool, true, false, not, ◌&&◌, if◌then◌else◌, nat_eq, nat_lt, nat_le, bytes_eq, List, [], ◌∷◌, ◌++◌, length, take, drop, position, codes, slice_get, slice_index, slice_set, replicate, Option, Some, None, option_and_then, Result, Ok, Err, ℤ, pos, neg_ℤ}
-use Rattle.std.specs.List.{prefix_len, list_all}
+use Rattle.std.specs.Prelude.{ℕ, zero, suc, ◌+◌, ◌-◌, ◌^◌, Bool, not, ◌&&◌, if◌then◌else◌, nat_eq, nat_lt, nat_le, bytes_eq, List, [], ◌∷◌, ◌++◌, length, take, drop, position, codes, slice_get, slice_index, slice_set, replicate, Option, Some, None, option_and_then, Result, Ok, Err, ℤ, pos, neg_ℤ}
+use Rattle.std.specs.List.{list_all}
 use Rattle.c_tree.specs.Plain.{Word}
-use Rattle.c_tree.specs.Reserved.{is_digit}
 use Rattle.c_tree.specs.declared.frame.Frame.{Frame}
 use Rattle.c_tree.specs.declared.frame.Inputs.{Inputs}
+use Rattle.text_pieces.specs.Fronts.{run, behind, is_in_line}
+use Rattle.text_pieces.specs.Numbers.{decimal_in}
 use Rattle.data_file.specs.declared.row.Row.{Row}
 use Rattle.data_file.specs.declared.row.Row.TheVariants.{Value, Cells}
 use Rattle.data_file.specs.Conditions.{names_in}
@@ -16,13 +17,6 @@ o >>= f = option_and_then f o
 
 -- ---- fronts
 
--- the longest front of bytes that pass a test, and what follows it
-abbrev pub run : (ℕ → Bool) → List ℕ → List ℕ
-run test text = take (prefix_len test text) text
-
-abbrev pub behind : (ℕ → Bool) → List ℕ → List ℕ
-behind test text = drop (prefix_len test text) text
-
 -- what follows these bytes, and what stands before them
 unfoldable pub strip : List ℕ → List ℕ → Option (List ℕ)
 strip front text = if bytes_eq (take (length front) text) front then Some (drop (length front) text) else None
@@ -32,24 +26,6 @@ strip_end end text = if bytes_eq (drop (length text - length end) text) end then
 
 -- ---- numbers
 
--- the number with one more digit, below 2^64
-abbrev pub longer : ℕ → ℕ → Option ℕ
-longer n b = let m = n * 10 + (b - 48) in if is_digit b && nat_lt m (2 ^ 64) then Some m else None
-
--- the number that digits write behind those of another number
-abbrev pub value_after : ℕ → List ℕ → Option ℕ
-value_after n [] = Some n
-value_after n (b ∷ bs) = longer n b >>= λ m. value_after m bs
-
--- at least one byte, and no zero before another digit
-abbrev pub is_short : List ℕ → Bool
-is_short [] = false
-is_short (b ∷ []) = true
-is_short (b ∷ c ∷ bs) = not (nat_eq b 48)
-
-unfoldable pub word_of : List ℕ → Option ℕ
-word_of digits = if is_short digits then value_after 0 digits else None
-
 abbrev pub negative : ℕ → Option ℤ
 negative n = if nat_le 1 n && nat_le n (2 ^ 63) then Some (neg_ℤ (pos n)) else None
 
@@ -58,7 +34,7 @@ positive n = if nat_lt n (2 ^ 63) then Some (pos n) else None
 
 unfoldable pub int_of : List ℕ → Option ℤ
 int_of [] = None
-int_of (b ∷ bs) = if nat_eq b 45 then word_of bs >>= negative else word_of (b ∷ bs) >>= positive
+int_of (b ∷ bs) = if nat_eq b 45 then decimal_in bs >>= negative else decimal_in (b ∷ bs) >>= positive
 
 abbrev pub is_solid : ℕ → Bool
 is_solid b = not (is_gap b)
@@ -70,7 +46,7 @@ more_by go n (b ∷ bs) = go (behind is_gap (b ∷ bs)) >>= λ ns. Some (n ∷ n
 -- numbers set apart by gaps, at most so many
 unfoldable pub cells_in : ℕ → List ℕ → Option (List ℕ)
 cells_in zero text = None
-cells_in (suc k) text = word_of (run is_solid text) >>= λ n. more_by (cells_in k) n (behind is_solid text)
+cells_in (suc k) text = decimal_in (run is_solid text) >>= λ n. more_by (cells_in k) n (behind is_solid text)
 
 unfoldable pub cells_of : List ℕ → Option (List ℕ)
 cells_of text = cells_in (length text) text
@@ -109,9 +85,6 @@ row_at parameters names line = do
   Some (k, r)
 
 -- ---- lines
-
-abbrev pub is_in_line : ℕ → Bool
-is_in_line b = not (nat_eq b 10)
 
 abbrev pub without_return : List ℕ → List ℕ
 without_return line = if nat_eq (slice_index line (length line - 1)) 13 then take (length line - 1) line else line

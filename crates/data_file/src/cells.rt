@@ -4,10 +4,10 @@ ghost use Rattle.std.specs.Prelude.{◌≡◌, IfOk};
 ghost use Rattle.data_file.specs.Reading as spec;
 
 use crate::front::{behind_gap, split_solid};
-use crate::number::word_of;
 use c_tree::{ArrayCells, OutOfMemory};
 use sqlite_items::Items;
 use std::alloc::Global;
+use text_pieces::decimal_number;
 
 /// The numbers that the text writes, set apart by spaces and tabs.
 pub fn cells_of(alloc: Global, text: &[u8]) -> Result<Option<ArrayCells>, OutOfMemory>
@@ -17,7 +17,7 @@ pub fn cells_of(alloc: Global, text: &[u8]) -> Result<Option<ArrayCells>, OutOfM
     let mut rest = text;
     for _turn in 0..text.len() {
         let (digits, behind) = split_solid(rest);
-        let Some(cell) = word_of(digits) else {
+        let Some(cell) = decimal_number(digits) else {
             return Ok(None);
         };
         cells.push(cell)?;

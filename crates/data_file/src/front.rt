@@ -2,9 +2,12 @@
 
 ghost use Rattle.std.specs.Prelude.{◌≡◌, ◌≤◌, ◌<◌, ◌∷◌, [], length, if◌then◌else◌};
 ghost use Rattle.std.specs.List.{prefix_len};
+ghost use Rattle.text_pieces.specs.Fronts.{run, behind};
 ghost use Rattle.data_file.specs.Outcome.{Reads};
 ghost use Rattle.data_file.specs.Meaning as meaning;
 ghost use Rattle.data_file.specs.Reading as spec;
+
+use text_pieces::line_len;
 
 /// A space or a tab.
 fn is_gap(b: u8) -> bool
@@ -28,8 +31,8 @@ fn solid_len(text: &[u8]) -> usize
 
 /// The longest front without spaces and tabs, and what follows it.
 pub fn split_solid(text: &[u8]) -> (&[u8], &[u8])
-    ensures front { result.0.now ≡ spec.run spec.is_solid text.now }
-    ensures rest { result.1.now ≡ spec.behind spec.is_solid text.now }
+    ensures front { result.0.now ≡ run spec.is_solid text.now }
+    ensures rest { result.1.now ≡ behind spec.is_solid text.now }
 {
     text.split_at(solid_len(text))
 }
@@ -43,16 +46,9 @@ fn gap_len(text: &[u8]) -> usize
 
 /// What follows the spaces and tabs.
 pub fn behind_gap(text: &[u8]) -> &[u8]
-    ensures { result.now ≡ spec.behind meaning.is_gap text.now }
+    ensures { result.now ≡ behind meaning.is_gap text.now }
 {
     text.split_at(gap_len(text)).1
-}
-
-fn line_len(text: &[u8]) -> usize
-    ensures value { result ≡ prefix_len spec.is_in_line text.now }
-    ensures bound { result ≤ length text.now }
-{
-    text.iter().take_while(|b| **b != b'\n').count()
 }
 
 /// The line without the carriage return that may end it.

@@ -1,6 +1,8 @@
 use Rattle.std.proofs.Common.{◌≡◌, ◌++◌, ◌∷◌, [], ◌+◌, ◌-◌, ◌<◌, length, zero, None, Some, List, ℕ, ap, sym, ◌∙◌, arith}
+use Rattle.text_pieces.specs.Fronts.{run, behind}
+use Rattle.text_pieces.specs.Numbers.{decimal_in}
 use Rattle.data_file.specs.Meaning.{is_gap}
-use Rattle.data_file.specs.Reading.{run, behind, is_solid, word_of, cells_in}
+use Rattle.data_file.specs.Reading.{is_solid, cells_in}
 use Rattle.data_file.proofs.Turns.{before, begun, one_turn, no_turn, last_turn, next_turn, turns_out, empty_is, long_is}
 use Rattle.data_file.proofs.cells.cells_of.Goals as goal
 
@@ -10,14 +12,14 @@ loop-turn-init c = ap (λ front. before front (cells_in (length c.args.text.now 
 pub returns-in_default : goal.returns-in_default
 returns-in_default c =
     let text = c.loop-turn.rest.now in
-    let none : word_of (run is_solid text) ≡ None = cc in
+    let none : decimal_in (run is_solid text) ≡ None = cc in
     let turn = one_turn (length c.args.text.now) c.loop-turn._turn c.loop-turn.cells text c.loop-turn-test.true c.loop-turn.invariant in
     sym (no_turn (length c.args.text.now - (c.loop-turn._turn + 1)) c.loop-turn.cells text none) ∙ turn
 
 pub returns-then-is_empty : goal.returns-then-is_empty
 returns-then-is_empty c =
     let text = c.loop-turn.rest.now in
-    let some : word_of (run is_solid text) ≡ Some c.in-Some.cell = cc in
+    let some : decimal_in (run is_solid text) ≡ Some c.in-Some.cell = cc in
     let all : behind is_solid text ≡ [] = sym c.split_solid.ensures.rest ∙ empty_is _ (sym c.is_empty.ensures ∙ c.if-is_empty.true) in
     let turn = one_turn (length c.args.text.now) c.loop-turn._turn c.loop-turn.cells text c.loop-turn-test.true c.loop-turn.invariant in
     ap (λ (z : List ℕ). Some z) c.in_ok-push.ensures.ok ∙ sym (last_turn (length c.args.text.now - (c.loop-turn._turn + 1)) c.in-Some.cell c.loop-turn.cells text some all) ∙ turn
@@ -25,7 +27,7 @@ returns-then-is_empty c =
 pub loop-turn-preserved : goal.loop-turn-preserved
 loop-turn-preserved c =
     let text = c.loop-turn.rest.now in
-    let some : word_of (run is_solid text) ≡ Some c.in-Some.cell = cc in
+    let some : decimal_in (run is_solid text) ≡ Some c.in-Some.cell = cc in
     let long = long_is _ (sym c.is_empty.ensures ∙ c.if-is_empty.false) in
     let more : 0 < length (behind is_solid text) = omega (arith, ap length c.split_solid.ensures.rest) in
     let k = length c.args.text.now - (c.loop-turn._turn + 1) in
