@@ -8,7 +8,7 @@ use std::io::{ErrorKind, Read, Seek, SeekFrom, Write};
 use std::rt::Files;
 
 /// Each name is that of a file with these bytes. A read gives at most `most` of them, and adds to
-/// `read` how many it gave. Each call that does more than open and read adds to `others`.
+/// `read` how many it gave. A call that does more than open for reading, or read, adds to `others`.
 #[derive(Drop)]
 pub struct CountedFiles<'a> {
     pub bytes: &'a [u8],
@@ -86,6 +86,10 @@ impl<'a> Files for CountedFiles<'a> {
 
     fn open_file(&self, how: &OpenOptions, _path: &str) -> io::Result<CountedFile<'a>> {
         how.check()?;
+        let mut unread = how.clone()?;
+        if unread.read(false).check().is_ok() {
+            return Err(other(self.others));
+        }
         Ok(CountedFile {
             rest: self.bytes,
             most: self.most,
