@@ -1,0 +1,2 @@
+pub mod OneLoopText
+pub mod Shift
