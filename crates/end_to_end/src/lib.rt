@@ -1,14 +1,11 @@
-//! Tests that go across crates: texts that are read, refused, instrumented and run.
+//! Tests that go across crates: texts that are instrumented and run, copies of trees, and what is
+//! displayed.
 #![tactic(auto)]
 
 #[cfg(test)]
 mod copies;
 #[cfg(test)]
 mod instruments;
-#[cfg(test)]
-mod lexes;
-#[cfg(test)]
-mod reads;
 #[cfg(test)]
 mod refusals;
 #[cfg(test)]

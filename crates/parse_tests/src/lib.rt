@@ -1,0 +1,25 @@
+//! Tests of texts that are read and refused: their tokens, their trees, and where reading stops.
+#![tactic(auto)]
+
+#[cfg(test)]
+mod expressions;
+#[cfg(test)]
+mod fronts;
+#[cfg(test)]
+mod heads;
+#[cfg(test)]
+mod layouts;
+#[cfg(test)]
+mod lexes;
+#[cfg(test)]
+mod limits;
+#[cfg(test)]
+mod one_loop_form;
+#[cfg(test)]
+mod places;
+#[cfg(test)]
+mod printed_texts;
+mod shown;
+#[cfg(test)]
+mod statements;
+pub mod texts;
