@@ -1,0 +1,3 @@
+pub mod Before
+pub mod Powers
+pub mod Scopes
