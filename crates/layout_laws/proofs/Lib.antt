@@ -1,0 +1,17 @@
+pub mod SpelledExpressions
+pub mod SpelledStatements
+pub mod SpelledUnits
+pub mod Seen
+pub mod Lexed
+pub mod Words
+pub mod Numbers
+pub mod Marks
+pub mod Expressions
+pub mod Fixed
+pub mod Statements
+pub mod Heads
+pub mod Spans
+pub mod ProperTokens
+pub mod Wholes
+pub mod ProperTrees
+pub mod Laws

@@ -1,0 +1,5 @@
+pub mod Spell
+pub mod Fine
+pub mod Proper
+pub mod Trees
+pub mod Examples
