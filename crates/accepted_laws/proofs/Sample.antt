@@ -1,0 +1,90 @@
+-- The sample is of the grammar, no refusal names it, and so it is regular: each fact is computed.
+use Rattle.std.proofs.Common.{refl, arith, codes, false}
+use Rattle.std.proofs.lemmas.Int.{ints}
+use Rattle.c_tree.specs.Plain.{Word}
+use Rattle.instrumentation.specs.Guarded.{guarded}
+use Rattle.acceptance.specs.Printed.{IsAcceptedPrinted}
+use Rattle.accepted_laws.specs.Trees.{IsNameIn, IsSourceTree, IsPrintedTree}
+use Rattle.accepted_laws.specs.Refusals.{IsRefusedNowhere}
+use Rattle.accepted_laws.specs.Regular.{IsRegular}
+use Rattle.accepted_laws.specs.Sample.{source}
+use Rattle.accepted_laws.proofs.Regular.{regular_accepted}
+use Rattle.accepted_laws.proofs.TextTrees.{regular_tree}
+use Rattle.accepted_laws.proofs.Unrefused.{unrefused_regular}
+
+pub unrefused : IsRefusedNowhere source
+unrefused = refl
+
+abbrev Named : Word → Type 0
+Named = IsNameIn false
+
+name_n : Named (codes "n")
+name_n = record { word = refl; free = refl; short = omega arith }
+
+name_m : Named (codes "m")
+name_m = record { word = refl; free = refl; short = omega arith }
+
+name_a : Named (codes "A")
+name_a = record { word = refl; free = refl; short = omega arith }
+
+name_b : Named (codes "B")
+name_b = record { word = refl; free = refl; short = omega arith }
+
+name_s : Named (codes "s")
+name_s = record { word = refl; free = refl; short = omega arith }
+
+name_i : Named (codes "i")
+name_i = record { word = refl; free = refl; short = omega arith }
+
+name_j : Named (codes "j")
+name_j = record { word = refl; free = refl; short = omega arith }
+
+pub tree : IsSourceTree source
+tree = record {
+  version = refl;
+  no_wides = refl;
+  head = record {
+    ranges = (record { name = name_n; low = (omega (arith, ints), omega (arith, ints)); high = (omega (arith, ints), omega (arith, ints)) }, (record { name = name_m; low = (omega (arith, ints), omega (arith, ints)); high = (omega (arith, ints), omega (arith, ints)) }, tt));
+    name = record { word = refl; free = refl; short = omega arith };
+    some_param = λ e. (let f : ⊥ = cc in f);
+    params = (name_n, (name_m, (name_a, (name_n, ((name_m, omega arith), tt)), omega arith, (name_b, ((omega arith, name_n), tt), omega arith, tt))));
+    words = (name_s, omega arith, tt);
+    wides = tt;
+  };
+  body = (
+    (
+      name_i,
+      refl,
+      omega arith,
+      name_n,
+      (
+        (
+          name_j,
+          refl,
+          name_i,
+          name_m,
+          (
+            (
+              ((name_i, name_j), (((name_j, omega arith), name_n), tt)),
+              ((refl, refl, (name_a, (name_i, (name_j, tt))), (((name_b, ((omega arith, name_i), tt)), name_s), (name_i, omega arith))), tt),
+              ((refl, refl, name_s, (((name_a, (name_i, (omega arith, tt))), (name_b, (name_i, tt))), ((name_b, ((name_n, omega arith), tt)), omega arith))), tt),
+            ),
+            tt,
+          ),
+        ),
+        ((refl, refl, name_s, ((name_s, (name_a, (name_i, (name_i, tt)))), omega arith)), tt),
+      ),
+    ),
+    tt,
+  );
+  low = record { stmts = omega arith; exprs = omega arith; extents = omega arith };
+}
+
+pub regular : IsRegular source
+regular = unrefused_regular source tree unrefused refl
+
+pub sample_accepted : IsAcceptedPrinted (guarded source)
+sample_accepted = regular_accepted source regular
+
+pub sample_printed : IsPrintedTree (guarded source)
+sample_printed = regular_tree source regular tree

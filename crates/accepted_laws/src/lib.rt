@@ -1,0 +1,69 @@
+//! Laws of acceptance: the instrumented unit of every regular source is accepted as a printed unit.
+#![tactic(auto)]
+
+ghost use Rattle.acceptance.specs.Printed.{IsAcceptedPrinted, StoresNothingBefore};
+ghost use Rattle.acceptance.specs.Runnable.{IsRunnable};
+ghost use Rattle.accepted_laws.specs.Broken.{whole, reserved_scalar, size_again, unknown_value, two_subscripts, wide_shift, bare_variable, is_clear};
+ghost use Rattle.accepted_laws.specs.Trees.{IsSourceTree, IsPrintedTree};
+ghost use Rattle.accepted_laws.specs.Heights.{IsLow, all_exprs_height};
+ghost use Rattle.accepted_laws.specs.Refusals.{IsRefusedNowhere, all_read_plainly};
+ghost use Rattle.accepted_laws.specs.Regular.{IsRegular};
+ghost use Rattle.accepted_laws.specs.Sample.{source};
+ghost use Rattle.accepted_laws.specs.Tall.{tall};
+ghost use Rattle.c_tree.specs.Grammar.Statements.{stmts_height};
+ghost use Rattle.c_tree.specs.OneLoop.{IsOneLoop};
+ghost use Rattle.c_tree.specs.Plain.{PlainUnit};
+ghost use Rattle.instrumentation.specs.Guarded.{guarded};
+ghost use Rattle.std.specs.Prelude.{◌≡◌, true, false};
+
+/// The instrumented unit of a regular source is accepted as a printed unit, stores into no array before the source's statements begin, and is one that the interpreter runs.
+/// Where the source's statements and expressions are at most 64 high, its statements are at most 129 high, and its expressions at most 65.
+/// Where the source is a tree of the grammar of sources, it is one of the grammar of printed texts: it has one `begin`, and the verdict last.
+pub fn regular_is_accepted()
+    ensures accepted { (u : PlainUnit) → IsRegular u → IsAcceptedPrinted (guarded u) }
+    ensures stores { (u : PlainUnit) → IsRegular u → StoresNothingBefore (guarded u) }
+    ensures runs { (u : PlainUnit) → IsRegular u → IsRunnable (guarded u) }
+    ensures low { (u : PlainUnit) → IsRegular u → IsLow 64 64 u → IsLow 129 65 (guarded u) }
+    ensures printed { (u : PlainUnit) → IsRegular u → IsSourceTree u → IsPrintedTree (guarded u) }
+{}
+
+/// A source of the grammar that no refusal names, and in which no subscript is a cell, is regular.
+pub fn unrefused_is_regular()
+    ensures { (u : PlainUnit) → IsSourceTree u → IsRefusedNowhere u → all_read_plainly u.body ≡ true → IsRegular u }
+{}
+
+/// A source of two loops, two arrays, a scalar and a choice with an else is of the grammar, no refusal names it, it is regular, and its instrumented unit is accepted and is of the grammar.
+pub fn a_nest_is_accepted()
+    ensures tree { IsSourceTree source }
+    ensures unrefused { IsRefusedNowhere source }
+    ensures regular { IsRegular source }
+    ensures accepted { IsAcceptedPrinted (guarded source) }
+    ensures printed { IsPrintedTree (guarded source) }
+{}
+
+/// A source of the one-loop form is of the grammar, and regular; so its instrumented unit is accepted.
+pub fn one_loop_is_regular()
+    ensures regular { (u : PlainUnit) → IsOneLoop u → IsRegular u }
+    ensures tree { (u : PlainUnit) → IsOneLoop u → IsSourceTree u }
+    ensures accepted { (u : PlainUnit) → IsOneLoop u → IsAcceptedPrinted (guarded u) }
+    ensures printed { (u : PlainUnit) → IsOneLoop u → IsPrintedTree (guarded u) }
+{}
+
+/// The bounds 129 and 65 are met: by a source that no refusal names, with a loop and 62 choices around an assignment whose value is 64 high.
+pub fn heights_are_met()
+    ensures low { IsLow 64 64 tall }
+    ensures unrefused { IsRefusedNowhere tall }
+    ensures stmts { stmts_height (guarded tall).body ≡ 129 }
+    ensures exprs { all_exprs_height (guarded tall).body ≡ 65 }
+{}
+
+/// Of a small source no condition of a printed unit holds in its instrumented unit. Where the source has a reserved scalar, a loop named as its size, an unknown name, a subscript too many, a shift by 64 or a bare loop variable as its value, one does.
+pub fn facts_are_needed()
+    ensures clear { is_clear (guarded whole) ≡ true }
+    ensures reserved { is_clear (guarded reserved_scalar) ≡ false }
+    ensures again { is_clear (guarded size_again) ≡ false }
+    ensures unknown { is_clear (guarded unknown_value) ≡ false }
+    ensures subscripts { is_clear (guarded two_subscripts) ≡ false }
+    ensures shift { is_clear (guarded wide_shift) ≡ false }
+    ensures bare { is_clear (guarded bare_variable) ≡ false }
+{}
