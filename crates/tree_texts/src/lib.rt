@@ -1,0 +1,51 @@
+//! Laws of trees and texts: the layout of each tree of the grammar is a text of it, and so is that of the instrumented unit.
+#![tactic(auto)]
+
+ghost use Rattle.accepted_laws.specs.Regular.{IsRegular};
+ghost use Rattle.accepted_laws.specs.Sample.{source};
+ghost use Rattle.accepted_laws.specs.Trees.{IsSourceTree, IsPrintedTree};
+ghost use Rattle.c_tree.specs.Grammar.Texts.{IsText};
+ghost use Rattle.c_tree.specs.Grammar.Tokens.{Text};
+ghost use Rattle.c_tree.specs.Layout.{layout};
+ghost use Rattle.c_tree.specs.OneLoop.{IsOneLoop};
+ghost use Rattle.c_tree.specs.Plain.{PlainUnit};
+ghost use Rattle.instrumentation.specs.Guarded.{guarded};
+ghost use Rattle.std.specs.Prelude.{◌⊎◌};
+
+use accepted_laws::{a_nest_is_accepted, one_loop_is_regular, regular_is_accepted};
+use layout_laws::trees_are_units;
+
+/// The layout of each tree of a source or of a printed text is a text of it.
+pub fn trees_have_texts()
+    ensures source { (u : PlainUnit) → IsSourceTree u → IsText (layout u) u }
+    ensures printed { (u : PlainUnit) → IsPrintedTree u → IsText (layout u) u }
+{
+    trees_are_units();
+}
+
+/// The unit of each text is a tree of a source or of a printed text.
+pub fn texts_have_trees()
+    ensures { (text : Text) (u : PlainUnit) → IsText text u → IsSourceTree u ⊎ IsPrintedTree u }
+{
+    trees_are_units();
+}
+
+/// The layout of the instrumented unit of a regular source that some text has, or that is of the one-loop form, is a text of it.
+pub fn instrumented_units_have_texts()
+    ensures regular { (text : Text) (u : PlainUnit) → IsText text u → IsRegular u → IsText (layout (guarded u)) (guarded u) }
+    ensures one_loop { (u : PlainUnit) → IsOneLoop u → IsText (layout (guarded u)) (guarded u) }
+{
+    trees_have_texts();
+    texts_have_trees();
+    regular_is_accepted();
+    one_loop_is_regular();
+}
+
+/// There are such sources: one of two loops, two arrays, a scalar and a choice with an else.
+pub fn a_nest_has_texts()
+    ensures of_source { IsText (layout source) source }
+    ensures instrumented { IsText (layout (guarded source)) (guarded source) }
+{
+    trees_have_texts();
+    a_nest_is_accepted();
+}
