@@ -2,23 +2,24 @@
 use Rattle.std.proofs.Common.{◌≡◌, ◌⊎◌, ℕ, List, [], Option, Some, None, Result, Ok, Err, inl, inr, sym, ◌∙◌, ap, subst, refl, arith}
 use Rattle.std.proofs.lemmas.Option.{none-some}
 use Rattle.edge.specs.Causes.{Rose}
-use Rattle.balance_cli.specs.Calls.{IsWritten, IsTold, IsEnding, IsAnswer, IsCall, Tries}
-use Rattle.balance_cli.specs.Lines.{line_of}
+use Rattle.balance_cli.specs.Calls.{IsWritten, IsTold, IsEnding, IsAnswer, IsCall}
+use Rattle.command_line.specs.Tried.{Tries}
+use Rattle.command_line.specs.Lines.{line_of}
 use Rattle.balance_cli.specs.Met.{Met, files_before}
-use Rattle.balance_cli.specs.Orders.{Order, print, run_file, attempt, files_of}
+use Rattle.command_line.specs.Orders.{Order, print, run_file, attempt, files_of}
 use Rattle.balance_cli.specs.Plans.{Files, plan_of, Follows, AsksOnly, Ends, Defined}
-use Rattle.balance_cli.specs.Statuses.{status_of, finish_status, ideal_status}
+use Rattle.command_line.specs.Statuses.{status_of, finish_status, ideal_status}
 use Rattle.balance_cli.specs.Table.{Cause, IsDone, AsksInOrder, IsQuiet, IsFulfilled, IsComplete, IsCalm, EndsAsDefined}
-use Rattle.balance_cli.specs.declared.stages.Finish.{Finish}
-use Rattle.balance_cli.specs.declared.stages.Finish.TheVariants as finish
-use Rattle.balance_cli.specs.declared.stages.Output.{Output}
-use Rattle.balance_cli.specs.declared.stages.Stop.{Stop}
-use Rattle.balance_cli.specs.declared.stages.Stop.TheVariants.{ReadFault, TooLong, SourceRefused, DataRefused, NoMemory}
-use Rattle.balance_cli.specs.declared.status.Status.{Status}
-use Rattle.balance_cli.specs.declared.status.Status.TheVariants as status
-use Rattle.balance_cli.proofs.Plans.{asked_nothing, form_of_accepted}
-use Rattle.balance_cli.proofs.Endings.{defined_end, fault_end, asked_end, IsCalmFor, HasForms, determined}
-use Rattle.balance_cli.proofs.SomeEnding.{Laws, some_ending, passing_end}
+use Rattle.command_line.specs.declared.outcome.Finish.{Finish}
+use Rattle.command_line.specs.declared.outcome.Finish.TheVariants as finish
+use Rattle.command_line.specs.declared.outcome.Output.{Output}
+use Rattle.command_line.specs.declared.outcome.Stop.{Stop}
+use Rattle.command_line.specs.declared.outcome.Stop.TheVariants.{ReadFault, TooLong, SourceRefused, DataRefused, NoMemory}
+use Rattle.command_line.specs.declared.status.Status.{Status}
+use Rattle.command_line.specs.declared.status.Status.TheVariants as status
+use Rattle.balance_cli.proofs.Plans.{asked_nothing}
+use Rattle.balance_cli.proofs.Endings.{defined_end, fault_end, asked_end, IsCalmFor, determined, some_ending, passing_end}
+use Rattle.balance_cli.proofs.Sound.{Laws, plan_is_sound}
 
 done_so : (order : Order) (m : Met) (f : Finish) → IsDone order f m → Cause (Some order) m (finish_status f)
 done_so order m finish.Done done = done
@@ -113,11 +114,6 @@ plan_asks (print source) = (refl, λ text unit. tt)
 plan_asks (run_file file input) = (refl, λ text unit. (refl, λ bytes inputs. tt))
 plan_asks (attempt source input) = (refl, λ text unit. (refl, λ bytes inputs. tt))
 
-plan_has_forms : (order : Order) → HasForms (plan_of order)
-plan_has_forms (print source) = λ text within unit is. form_of_accepted text unit is
-plan_has_forms (run_file file input) = λ text within unit is bytes few. (form_of_accepted text unit is, λ inputs. tt)
-plan_has_forms (attempt source input) = λ text within unit is bytes few. (form_of_accepted text unit is, λ inputs. form_of_accepted text unit is)
-
 no_order_asks : (m : Met) (ends : Status) → IsAnswer None m ends → m.shelf ≡ m.shelf_before
 no_order_asks m ends (inl misused) = misused.1.unread
 no_order_asks m ends (inr wanting) = wanting.1.unread
@@ -184,12 +180,12 @@ calm_shelf (Err NoMemory) m calm = calm
 agrees : Laws → (order : Order) (files : List (List ℕ × List ℕ)) (m : Met) (outcome ideal : Result Output Stop) → Follows (plan_of order) m.shelf_before m.shelf outcome → files_before m ≡ Some files → Defined (plan_of order) (Some files) ideal → IsCalm ideal m → Agree outcome ideal
 agrees laws order files m outcome ideal follows told defined calm =
     let P : Files → Type 0 = λ fs. Ends (plan_of order) fs (Rose m.shelf_before.faults m.shelf.faults) follows.names outcome in
-    determined laws.texts laws.one_answer (plan_of order) files _ follows.names outcome ideal (plan_has_forms order) (calm_shelf ideal m calm) (subst P told follows.ends) defined
+    determined (plan_of order) files _ follows.names outcome ideal (plan_is_sound laws order) (calm_shelf ideal m calm) (subst P told follows.ends) defined
 
 pub determined_end : Laws → (order : Option Order) (m : Met) (ends : Status) → IsCall order m ends → EndsAsDefined order m ends
 determined_end laws None m ends called = tt
 determined_end laws (Some order) m ends called = λ files told.
-    let some = some_ending laws (plan_of order) files (plan_has_forms order) in
+    let some = some_ending (plan_of order) files (plan_is_sound laws order) in
     record {
       ideal = some.0;
       defined = some.1;
@@ -213,6 +209,6 @@ fulfilled order m ends (Err cause) ideal quiet follows refused (inr wanting) = i
 pub complete : Laws → (order : Option Order) (m : Met) (ends : Status) → IsCall order m ends → IsComplete order m ends
 complete laws None m ends called = tt
 complete laws (Some order) m ends called = λ files told passes quiet.
-    let text = passing_end laws (plan_of order) files (plan_has_forms order) passes in
+    let text = passing_end (plan_of order) files (plan_is_sound laws order) passes in
     fulfilled order m ends called.answer.outcome text.0 quiet called.answer.follows called.answer.ending
     (agrees laws order files m called.answer.outcome (Ok text.0) called.answer.follows told text.1 quiet)

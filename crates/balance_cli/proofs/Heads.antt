@@ -1,5 +1,8 @@
--- The head of a source's instrumented unit is the source's.
-use Rattle.std.proofs.Common.{◌≡◌, refl, sym, subst}
+-- The head of a source's instrumented unit is the source's, and its layout a text of it.
+use Rattle.std.proofs.Common.{◌≡◌, ℕ, List, refl, sym, subst}
+use Rattle.c_tree.specs.Grammar.Texts.{IsText}
+use Rattle.c_tree.specs.Layout.{layout}
+use Rattle.c_tree.specs.OneLoop.{IsOneLoop}
 use Rattle.c_tree.specs.Plain.{PlainUnit}
 use Rattle.instrumentation.specs.Guarded.{guarded}
 use Rattle.instrumentation.specs.Names.{function_name}
@@ -11,3 +14,8 @@ guarded_head source = record { version = refl; ranges = refl; name = refl; param
 
 pub made_head : (source unit : PlainUnit) → unit ≡ guarded source → HasHeadOf source unit
 made_head source unit made = subst (λ (u : PlainUnit). HasHeadOf source u) (sym made) (guarded_head source)
+
+-- a text that is the layout of the instrumented unit is a text of it
+pub spelled_by : (source unit : PlainUnit) (text : List ℕ) → ((u : PlainUnit) → IsOneLoop u → IsText (layout (guarded u)) (guarded u)) → IsOneLoop source → unit ≡ guarded source → text ≡ layout unit → IsText text unit
+spelled_by source unit text law form made same =
+    subst (λ (t : List ℕ). IsText t unit) (sym same) (subst (λ (u : PlainUnit). IsText (layout u) u) (sym made) (law source form))

@@ -3,11 +3,8 @@ pub mod Endings
 pub mod Framed
 pub mod Heads
 pub mod Named
-pub mod Parts
-pub mod Pieces
 pub mod Plans
-pub mod Powers
 pub mod Shown
-pub mod SomeEnding
+pub mod Sound
 pub mod Unchecked
 pub mod TextLaws

@@ -11,17 +11,18 @@ use Rattle.c_tree.specs.declared.refusal.Refusal.{Refusal}
 use Rattle.c_tree.specs.declared.refusal.Refusal.TheVariants as refusal
 use Rattle.c_tree.specs.declared.unit.Unit.{Unit as TheUnit}
 use Rattle.c_tree.specs.declared.frame.Inputs.{Inputs}
+use Rattle.command_line.specs.Stops.{stop_of}
+use Rattle.command_line.specs.declared.outcome.FileWord.{FileWord}
+use Rattle.command_line.specs.declared.outcome.Output.{Output}
+use Rattle.command_line.specs.declared.outcome.Stop.{Stop}
+use Rattle.command_line.specs.declared.outcome.Stop.TheVariants.{ReadFault, TooLong, SourceRefused, DataRefused, NoMemory}
 use Rattle.interp.specs.Finished.{inputs_in}
-use Rattle.balance_cli.specs.Runs.{IsRun, IsTried}
-use Rattle.balance_cli.specs.Plans.{Plan, load, judge, print_unit, read, run_unit, try_unit, Files, Ends, Follows}
-use Rattle.balance_cli.specs.Printed.{IsPrinted}
-use Rattle.balance_cli.specs.Sources.{Accepts}
-use Rattle.balance_cli.specs.Stages.{IsLoad, IsJudged, IsTaken, IsRead, stop_of}
+use Rattle.balance_cli.specs.Inputs.{IsMeant, IsDataWhy}
+use Rattle.balance_cli.specs.Plans.{Plan, load, ask, give, judge, read, Files, Ends, Follows}
+use Rattle.balance_cli.specs.Sources.{Accepts, IsSourceWhy}
+use Rattle.balance_cli.specs.Stages.{IsLoad, IsJudged, IsTaken, IsRead}
+use Rattle.balance_cli.specs.Whys.{Why, of_source, of_data, StopsFor}
 use Rattle.balance_cli.specs.declared.judging.Wanted.{Wanted}
-use Rattle.balance_cli.specs.declared.stages.FileWord.{FileWord}
-use Rattle.balance_cli.specs.declared.stages.Output.{Output}
-use Rattle.balance_cli.specs.declared.stages.Stop.{Stop}
-use Rattle.balance_cli.specs.declared.stages.Stop.TheVariants.{ReadFault, TooLong, SourceRefused, DataRefused, NoMemory}
 
 -- an accepted source is of the one-loop form
 pub form_of_accepted : (text : List ℕ) (u : PlainUnit) → Accepts text u → IsOneLoop u
@@ -34,28 +35,23 @@ rose_over first middle last earlier rose = omega arith
 -- the weaker the cause of a fault, the more endings
 ends_over : (plan : Plan) (files : Files) {P Q : Type 0} (names : List (List ℕ)) (outcome : Result Output Stop) → (P → Q) → Ends plan files P names outcome → Ends plan files Q names outcome
 unfolding Ends
-ends_over (load word name limit next) files names outcome f (inl h) = inl h
-ends_over (load word name limit next) files names outcome f (inr (inl h)) = inr (inl (h.0, h.1, f h.2))
-ends_over (load word name limit next) files names outcome f (inr (inr (inl h))) = inr (inr (inl h))
-ends_over (load word name limit next) files names outcome f (inr (inr (inr h))) = inr (inr (inr (h.0, h.1, h.2, h.3, h.4, ends_over (next h.0) files h.1 outcome f h.5)))
-ends_over (judge kind text next) files names outcome f (inl h) = inl h
-ends_over (judge kind text next) files names outcome f (inr (inl h)) = inr (inl h)
-ends_over (judge kind text next) files names outcome f (inr (inr h)) = inr (inr (h.0, h.1, ends_over (next h.0) files names outcome f h.2))
-ends_over (print_unit source) files names outcome f h = h
-ends_over (read head text next) files names outcome f (inl h) = inl h
-ends_over (read head text next) files names outcome f (inr (inl h)) = inr (inl h)
-ends_over (read head text next) files names outcome f (inr (inr h)) = inr (inr (h.0, h.1, ends_over (next h.0) files names outcome f h.2))
-ends_over (run_unit source inputs) files names outcome f h = h
-ends_over (try_unit source inputs) files names outcome f h = h
+ends_over (load word name next) files names outcome f (inl h) = inl h
+ends_over (load word name next) files names outcome f (inr (inl h)) = inr (inl (h.0, h.1, f h.2))
+ends_over (load word name next) files names outcome f (inr (inr (inl h))) = inr (inr (inl h))
+ends_over (load word name next) files names outcome f (inr (inr (inr h))) = inr (inr (inr (h.0, h.1, h.2, h.3, h.4, ends_over (next h.0) files h.1 outcome f h.5)))
+ends_over (ask answers stops next) files names outcome f (inl h) = inl h
+ends_over (ask answers stops next) files names outcome f (inr (inl h)) = inr (inl h)
+ends_over (ask answers stops next) files names outcome f (inr (inr h)) = inr (inr (h.0, h.1, ends_over (next h.0) files names outcome f h.2))
+ends_over (give is) files names outcome f h = h
 
 asked_twice : (asked : Option (List (List ℕ))) (names more : List (List ℕ)) → option_map (λ a. a ++ more) (option_map (λ a. a ++ names) asked) ≡ option_map (λ a. a ++ (names ++ more)) asked
 asked_twice None names more = refl
 asked_twice (Some a) names more = ap Some (append_assoc a names more)
 
 -- after a load that gave bytes, the rest of the plan
-pub follows_load : (word : FileWord) (name : List ℕ) (limit : ℕ) (next : List ℕ → Plan) (before middle now : Told) (bytes : List ℕ) (outcome : Result Output Stop) → IsLoad word name limit before middle (Ok bytes) → Follows (next bytes) middle now outcome → Follows (load word name limit next) before now outcome
+pub follows_load : (word : FileWord) (name : List ℕ) (next : List ℕ → Plan) (before middle now : Told) (bytes : List ℕ) (outcome : Result Output Stop) → IsLoad word name before middle (Ok bytes) → Follows (next bytes) middle now outcome → Follows (load word name next) before now outcome
 unfolding Ends
-follows_load word name limit next before middle now bytes outcome one rest = record {
+follows_load word name next before middle now bytes outcome one rest = record {
   files = rest.files ∙ one.0.files;
   later = omega (arith, one.0.later, rest.later);
   names = name ∷ rest.names;
@@ -72,13 +68,13 @@ follows_load word name limit next before middle now bytes outcome one rest = rec
 }
 
 -- a load that ends the plan
-pub follows_stop : (word : FileWord) (name : List ℕ) (limit : ℕ) (next : List ℕ → Plan) (before now : Told) (cause : Stop) → IsLoad word name limit before now (Err cause) → Follows (load word name limit next) before now (Err cause)
+pub follows_stop : (word : FileWord) (name : List ℕ) (next : List ℕ → Plan) (before now : Told) (cause : Stop) → IsLoad word name before now (Err cause) → Follows (load word name next) before now (Err cause)
 unfolding Ends
-follows_stop word name limit next before now (ReadFault w) one = record { files = one.0.files; later = one.0.later; names = name ∷ []; asked = one.0.asked; ends = inr (inl (refl, ap (λ x. Err (ReadFault x)) one.1, one.2)) }
-follows_stop word name limit next before now (TooLong w) one = record { files = one.0.files; later = one.0.later; names = name ∷ []; asked = one.0.asked; ends = inr (inr (inl (refl, ap (λ x. Err (TooLong x)) one.1, one.2))) }
-follows_stop word name limit next before now (SourceRefused refusal) one = absurd one
-follows_stop word name limit next before now (DataRefused why) one = absurd one
-follows_stop word name limit next before now NoMemory one = record { files = one.files; later = one.later; names = []; asked = one.asked; ends = inl (refl, refl) }
+follows_stop word name next before now (ReadFault w) one = record { files = one.0.files; later = one.0.later; names = name ∷ []; asked = one.0.asked; ends = inr (inl (refl, ap (λ x. Err (ReadFault x)) one.1, one.2)) }
+follows_stop word name next before now (TooLong w) one = record { files = one.0.files; later = one.0.later; names = name ∷ []; asked = one.0.asked; ends = inr (inr (inl (refl, ap (λ x. Err (TooLong x)) one.1, one.2))) }
+follows_stop word name next before now (SourceRefused refusal) one = absurd one
+follows_stop word name next before now (DataRefused why) one = absurd one
+follows_stop word name next before now NoMemory one = record { files = one.files; later = one.later; names = []; asked = one.asked; ends = inl (refl, refl) }
 
 pub asked_nothing : (asked : Option (List (List ℕ))) → asked ≡ option_map (λ a. a ++ []) asked
 asked_nothing None = refl
@@ -88,9 +84,39 @@ asked_nothing (Some a) = ap Some (sym (append-nil a))
 follows_still : (plan : Plan) (now : Told) (outcome : Result Output Stop) → ((rose : Type 0) → Ends plan now.files rose [] outcome) → Follows plan now now outcome
 follows_still plan now outcome ends = record { files = refl; later = omega arith; names = []; asked = asked_nothing now.asked; ends = ends (Rose now.faults now.faults) }
 
--- a text that is read through a reference
-pub judged_at : (kind : Wanted) (text seen : List ℕ) (result : Result TheUnit Stop) → seen ≡ text → IsJudged kind seen result → IsJudged kind text result
-judged_at kind text seen result same one = subst (λ (t : List ℕ). IsJudged kind t result) same one
+-- a question that is answered, and the rest of the plan
+follows_answered : {A : Type 0} (answers : A → Type 0) (stops : Why → Type 0) (next : A → Plan) (before now : Told) (answer : A) (outcome : Result Output Stop) → answers answer → Follows (next answer) before now outcome → Follows (ask answers stops next) before now outcome
+unfolding Ends
+follows_answered answers stops next before now answer outcome is rest = record {
+  files = rest.files;
+  later = rest.later;
+  names = rest.names;
+  asked = rest.asked;
+  ends = inr (inr (answer, is, rest.ends));
+}
+
+ends_stopped : {A : Type 0} (answers : A → Type 0) (stops : Why → Type 0) (next : A → Plan) (files : Files) (cause : Stop) → StopsFor stops cause → (rose : Type 0) → Ends (ask answers stops next) files rose [] (Err cause)
+unfolding Ends
+ends_stopped answers stops next files (SourceRefused refusal) why rose = inr (inl (of_source refusal, why, refl, refl))
+ends_stopped answers stops next files (DataRefused words) why rose = inr (inl (of_data words, why, refl, refl))
+ends_stopped answers stops next files NoMemory why rose = inl (refl, refl)
+ends_stopped answers stops next files (ReadFault word) why rose = absurd why
+ends_stopped answers stops next files (TooLong word) why rose = absurd why
+
+-- a question that stops the command
+follows_stopped : {A : Type 0} (answers : A → Type 0) (stops : Why → Type 0) (next : A → Plan) (now : Told) (cause : Stop) → StopsFor stops cause → Follows (ask answers stops next) now now (Err cause)
+follows_stopped answers stops next now cause why = follows_still (ask answers stops next) now (Err cause) (ends_stopped answers stops next now.files cause why)
+
+ends_given : (is : Output → Type 0) (files : Files) (outcome : Result Output Stop) → MatchResult outcome is (λ cause. cause ≡ NoMemory) → (rose : Type 0) → Ends (give is) files rose [] outcome
+unfolding Ends
+ends_given is files (Ok output) holds rose = (refl, inl (output, holds, refl))
+ends_given is files (Err cause) holds rose = (refl, inr (ap Err holds))
+
+-- the last stage
+pub follows_given : (is : Output → Type 0) (now : Told) (outcome : Result Output Stop) → MatchResult outcome is (λ cause. cause ≡ NoMemory) → Follows (give is) now now outcome
+follows_given is now outcome holds = follows_still (give is) now outcome (ends_given is now.files outcome holds)
+
+-- ---- source texts, each read through a reference
 
 -- a refusal as the cause that it is
 pub judged_refusal : (kind : Wanted) (text : List ℕ) (why : Refusal) → IsTaken kind text (Err why) → IsJudged kind text (Err (stop_of why))
@@ -100,81 +126,30 @@ judged_refusal kind text (refusal.Lexical byte) is = is
 judged_refusal kind text (refusal.Syntax byte) is = is
 judged_refusal kind text _ is = is
 
--- a source text that is accepted, and the rest of the plan
+judged_at : (kind : Wanted) (text seen : List ℕ) (result : Result TheUnit Stop) → seen ≡ text → IsJudged kind seen result → IsJudged kind text result
+judged_at kind text seen result same one = subst (λ (t : List ℕ). IsJudged kind t result) same one
+
+-- one that is accepted, and the rest of the plan
 pub follows_judged : (kind : Wanted) (text seen : List ℕ) (next : PlainUnit → Plan) (before now : Told) (u : TheUnit) (outcome : Result Output Stop) → seen ≡ text → IsJudged kind seen (Ok u) → Follows (next (unit u)) before now outcome → Follows (judge kind text next) before now outcome
-unfolding Ends
-follows_judged kind text seen next before now u outcome same one rest = record {
-  files = rest.files;
-  later = rest.later;
-  names = rest.names;
-  asked = rest.asked;
-  ends = inr (inr (unit u, judged_at kind text seen (Ok u) same one, rest.ends));
-}
+follows_judged kind text seen next before now u outcome same one rest =
+    follows_answered (Accepts text) (IsSourceWhy kind text) next before now (unit u) outcome (judged_at kind text seen (Ok u) same one) rest
 
-ends_refused : (kind : Wanted) (text : List ℕ) (next : PlainUnit → Plan) (files : Files) (cause : Stop) → IsJudged kind text (Err cause) → (rose : Type 0) → Ends (judge kind text next) files rose [] (Err cause)
-unfolding Ends
-ends_refused kind text next files (SourceRefused refusal) one rose = inr (inl (refusal, one, refl, refl))
-ends_refused kind text next files NoMemory one rose = inl (refl, refl)
-ends_refused kind text next files (ReadFault w) one rose = absurd one
-ends_refused kind text next files (TooLong w) one rose = absurd one
-ends_refused kind text next files (DataRefused why) one rose = absurd one
-
--- a source text that is refused
+-- one that is refused
 pub follows_refused : (kind : Wanted) (text seen : List ℕ) (next : PlainUnit → Plan) (now : Told) (cause : Stop) → seen ≡ text → IsJudged kind seen (Err cause) → Follows (judge kind text next) now now (Err cause)
 follows_refused kind text seen next now cause same one =
-    follows_still (judge kind text next) now (Err cause) (ends_refused kind text next now.files cause (judged_at kind text seen (Err cause) same one))
+    follows_stopped (Accepts text) (IsSourceWhy kind text) next now cause (judged_at kind text seen (Err cause) same one)
 
-ends_printed : (source : PlainUnit) (files : Files) (outcome : Result Output Stop) → MatchResult outcome (IsPrinted source) (λ cause. cause ≡ NoMemory) → (rose : Type 0) → Ends (print_unit source) files rose [] outcome
-unfolding Ends
-ends_printed source files (Ok output) is rose = (refl, inl (output, is, refl))
-ends_printed source files (Err cause) is rose = (refl, inr (ap Err is))
+-- ---- data texts
 
--- the last stage of a plan
-pub follows_printed : (source : PlainUnit) (now : Told) (outcome : Result Output Stop) → MatchResult outcome (IsPrinted source) (λ cause. cause ≡ NoMemory) → Follows (print_unit source) now now outcome
-follows_printed source now outcome is = follows_still (print_unit source) now outcome (ends_printed source now.files outcome is)
-
--- a data text that is read through a reference
-pub read_at : (head : PlainUnit) (text seen : List ℕ) (result : Result Inputs Stop) → seen ≡ text → IsRead head seen result → IsRead head text result
+read_at : (head : PlainUnit) (text seen : List ℕ) (result : Result Inputs Stop) → seen ≡ text → IsRead head seen result → IsRead head text result
 read_at head text seen result same one = subst (λ (t : List ℕ). IsRead head t result) same one
 
--- a data text that means inputs, and the rest of the plan
+-- one that means inputs, and the rest of the plan
 pub follows_read : (head : PlainUnit) (text seen : List ℕ) (next : PlainInputs → Plan) (before now : Told) (i : Inputs) (outcome : Result Output Stop) → seen ≡ text → IsRead head seen (Ok i) → Follows (next (inputs_in i)) before now outcome → Follows (read head text next) before now outcome
-unfolding Ends
-follows_read head text seen next before now i outcome same one rest = record {
-  files = rest.files;
-  later = rest.later;
-  names = rest.names;
-  asked = rest.asked;
-  ends = inr (inr (inputs_in i, read_at head text seen (Ok i) same one, rest.ends));
-}
+follows_read head text seen next before now i outcome same one rest =
+    follows_answered (IsMeant head text) (IsDataWhy head text) next before now (inputs_in i) outcome (read_at head text seen (Ok i) same one) rest
 
-ends_unread : (head : PlainUnit) (text : List ℕ) (next : PlainInputs → Plan) (files : Files) (cause : Stop) → IsRead head text (Err cause) → (rose : Type 0) → Ends (read head text next) files rose [] (Err cause)
-unfolding Ends
-ends_unread head text next files (DataRefused words) one rose = inr (inl (one.0, one.1, refl, ap (λ w. Err (DataRefused w)) one.2))
-ends_unread head text next files NoMemory one rose = inl (refl, refl)
-ends_unread head text next files (SourceRefused why) one rose = absurd one
-ends_unread head text next files (ReadFault w) one rose = absurd one
-ends_unread head text next files (TooLong w) one rose = absurd one
-
--- a data text that is refused
+-- one that is refused
 pub follows_unread : (head : PlainUnit) (text seen : List ℕ) (next : PlainInputs → Plan) (now : Told) (cause : Stop) → seen ≡ text → IsRead head seen (Err cause) → Follows (read head text next) now now (Err cause)
 follows_unread head text seen next now cause same one =
-    follows_still (read head text next) now (Err cause) (ends_unread head text next now.files cause (read_at head text seen (Err cause) same one))
-
-ends_run : (source : PlainUnit) (inputs : PlainInputs) (files : Files) (outcome : Result Output Stop) → MatchResult outcome (IsRun source inputs) (λ cause. cause ≡ NoMemory) → (rose : Type 0) → Ends (run_unit source inputs) files rose [] outcome
-unfolding Ends
-ends_run source inputs files (Ok output) is rose = (refl, inl (output, is, refl))
-ends_run source inputs files (Err cause) is rose = (refl, inr (ap Err is))
-
--- the last stage of a plan that runs a unit
-pub follows_run : (source : PlainUnit) (inputs : PlainInputs) (now : Told) (outcome : Result Output Stop) → MatchResult outcome (IsRun source inputs) (λ cause. cause ≡ NoMemory) → Follows (run_unit source inputs) now now outcome
-follows_run source inputs now outcome is = follows_still (run_unit source inputs) now outcome (ends_run source inputs now.files outcome is)
-
-ends_tried : (source : PlainUnit) (inputs : PlainInputs) (files : Files) (outcome : Result Output Stop) → MatchResult outcome (IsTried source inputs) (λ cause. cause ≡ NoMemory) → (rose : Type 0) → Ends (try_unit source inputs) files rose [] outcome
-unfolding Ends
-ends_tried source inputs files (Ok output) is rose = (refl, inl (output, is, refl))
-ends_tried source inputs files (Err cause) is rose = (refl, inr (ap Err is))
-
--- and that of its instrumented unit
-pub follows_tried : (source : PlainUnit) (inputs : PlainInputs) (now : Told) (outcome : Result Output Stop) → MatchResult outcome (IsTried source inputs) (λ cause. cause ≡ NoMemory) → Follows (try_unit source inputs) now now outcome
-follows_tried source inputs now outcome is = follows_still (try_unit source inputs) now outcome (ends_tried source inputs now.files outcome is)
+    follows_stopped (IsMeant head text) (IsDataWhy head text) next now cause (read_at head text seen (Err cause) same one)

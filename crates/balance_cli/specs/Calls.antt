@@ -1,22 +1,17 @@
 -- All that a call does: how it ends, and what it writes.
 use Rattle.std.specs.Prelude.{◌≡◌, ◌⊎◌, ℕ, List, Option, Some, None, Result, Ok, Err}
 use Rattle.edge.specs.Causes.{Rose}
-use Rattle.edge.specs.Sink.{Held, appended, AppendsPart, Writes}
-use Rattle.edge.specs.declared.sink.SinkFailed.{SinkFailed}
-use Rattle.balance_cli.specs.Lines.{line_of, usage_line, write_line, memory_line}
+use Rattle.edge.specs.Sink.{Held, appended, AppendsPart}
+use Rattle.command_line.specs.Lines.{line_of, usage_line, write_line, memory_line}
 use Rattle.balance_cli.specs.Met.{Met}
-use Rattle.balance_cli.specs.Orders.{Order}
+use Rattle.command_line.specs.Orders.{Order}
+use Rattle.command_line.specs.Tried.{Tries}
 use Rattle.balance_cli.specs.Plans.{plan_of, Follows}
-use Rattle.balance_cli.specs.Statuses.{status_of, finish_status}
-use Rattle.balance_cli.specs.declared.stages.Output.{Output}
-use Rattle.balance_cli.specs.declared.stages.Stop.{Stop}
-use Rattle.balance_cli.specs.declared.status.Status.{Status}
-use Rattle.balance_cli.specs.declared.status.Status.TheVariants as status
-
--- a line was tried on the error stream: it stands there, or a prefix of it where the count rose
-pub record Tries (before now : Held) (line : List ℕ) : Type 0 where
-  pub result : Result (Unit {0}) SinkFailed
-  pub writes : Writes before now line result
+use Rattle.command_line.specs.Statuses.{status_of, finish_status}
+use Rattle.command_line.specs.declared.outcome.Output.{Output}
+use Rattle.command_line.specs.declared.outcome.Stop.{Stop}
+use Rattle.command_line.specs.declared.status.Status.{Status}
+use Rattle.command_line.specs.declared.status.Status.TheVariants as status
 
 -- a text that is there in full
 pub record IsWritten (output : Output) (out_before out_now err_before err_now : Held) (ends : Status) : Type 0 where

@@ -5,42 +5,55 @@ use Rattle.edge.specs.Files.{file_of}
 use Rattle.edge.specs.Shelf.{Told}
 use Rattle.c_tree.specs.Inputs.{PlainInputs}
 use Rattle.c_tree.specs.Plain.{PlainUnit}
-use Rattle.c_tree.specs.declared.refusal.Refusal.{Refusal}
-use Rattle.data_file.specs.declared.refusal.DataRefusal.{DataRefusal}
-use Rattle.balance_cli.specs.Frames.{frame_in}
-use Rattle.balance_cli.specs.Inputs.{IsMeant, IsDataRefused, data_refusal_text}
-use Rattle.balance_cli.specs.Orders.{Order, print, run_file, attempt}
+use Rattle.command_line.specs.Lines.{limit_of}
+use Rattle.command_line.specs.Orders.{Order, print, run_file, attempt}
+use Rattle.command_line.specs.declared.outcome.FileWord.{FileWord}
+use Rattle.command_line.specs.declared.outcome.FileWord.TheVariants.{Source, File, Data}
+use Rattle.command_line.specs.declared.outcome.Output.{Output}
+use Rattle.command_line.specs.declared.outcome.Stop.{Stop}
+use Rattle.command_line.specs.declared.outcome.Stop.TheVariants.{ReadFault, TooLong, NoMemory}
+use Rattle.balance_cli.specs.Inputs.{IsMeant, IsDataWhy}
 use Rattle.balance_cli.specs.Printed.{IsPrinted}
 use Rattle.balance_cli.specs.Runs.{IsRun, IsTried}
-use Rattle.balance_cli.specs.Sources.{Accepts, Refuses}
+use Rattle.balance_cli.specs.Sources.{Accepts, IsSourceWhy}
+use Rattle.balance_cli.specs.Whys.{Why, stop_for}
 use Rattle.balance_cli.specs.declared.judging.Wanted.{Wanted}
 use Rattle.balance_cli.specs.declared.judging.Wanted.TheVariants as wanted
-use Rattle.balance_cli.specs.declared.stages.FileWord.{FileWord}
-use Rattle.balance_cli.specs.declared.stages.FileWord.TheVariants.{Source, File, Data}
-use Rattle.balance_cli.specs.declared.stages.Output.{Output}
-use Rattle.balance_cli.specs.declared.stages.Stop.{Stop}
-use Rattle.balance_cli.specs.declared.stages.Stop.TheVariants.{ReadFault, TooLong, SourceRefused, DataRefused, NoMemory}
 
-pub data Plan : Type 0 where
+pub data Plan : Type 1 where
   -- load a file, and go on with its bytes
-  load : (word : FileWord) (name : List ℕ) (limit : ℕ) (next : List ℕ → Plan) → Plan
-  -- judge a text, of which a source or any text is wanted, and go on with its unit
-  judge : (kind : Wanted) (text : List ℕ) (next : PlainUnit → Plan) → Plan
-  -- write a text that is printed for this source, and end so
-  print_unit : (source : PlainUnit) → Plan
-  -- read a data text by the head of a unit, and go on with its inputs
-  read : (head : PlainUnit) (text : List ℕ) (next : PlainInputs → Plan) → Plan
-  -- run a unit, and end so
-  run_unit : (source : PlainUnit) (inputs : PlainInputs) → Plan
-  -- run the instrumented unit of a source, and end so
-  try_unit : (source : PlainUnit) (inputs : PlainInputs) → Plan
+  load : (word : FileWord) (name : List ℕ) (next : List ℕ → Plan) → Plan
+  -- ask what is at hand: go on with an answer of which this holds, or stop for such a reason
+  ask : {A : Type 0} (answers : A → Type 0) (stops : Why → Type 0) (next : A → Plan) → Plan
+  -- write a text of which this holds, and end so
+  give : (is : Output → Type 0) → Plan
+
+-- judge a text, of which a source or any text is wanted, and go on with its unit
+abbrev pub judge : Wanted → List ℕ → (PlainUnit → Plan) → Plan
+judge kind text next = ask (Accepts text) (IsSourceWhy kind text) next
+
+-- read a data text by the head of a unit, and go on with its inputs
+abbrev pub read : PlainUnit → List ℕ → (PlainInputs → Plan) → Plan
+read head text next = ask (IsMeant head text) (IsDataWhy head text) next
+
+-- the last stages
+abbrev pub printing : PlainUnit → Plan
+printing unit = give (IsPrinted unit)
+
+abbrev pub running : PlainUnit → PlainInputs → Plan
+running unit inputs = give (IsRun unit inputs)
+
+abbrev pub trying : PlainUnit → PlainInputs → Plan
+trying unit inputs = give (IsTried unit inputs)
+
+-- load a data file, read it by the head of the unit, and go on with its inputs
+abbrev pub on_data : List ℕ → (PlainUnit → PlainInputs → Plan) → PlainUnit → Plan
+on_data input next unit = load Data input (λ bytes. read unit bytes (next unit))
 
 abbrev pub plan_of : Order → Plan
-plan_of (print source) = load Source source 262144 (λ text. judge wanted.Source text (λ unit. print_unit unit))
-plan_of (run_file file input) =
-    load File file 16777216 (λ text. judge wanted.AnyText text (λ unit. load Data input 67108864 (λ bytes. read unit bytes (λ inputs. run_unit unit inputs))))
-plan_of (attempt source input) =
-    load Source source 262144 (λ text. judge wanted.Source text (λ unit. load Data input 67108864 (λ bytes. read unit bytes (λ inputs. try_unit unit inputs))))
+plan_of (print source) = load Source source (λ text. judge wanted.Source text printing)
+plan_of (run_file file input) = load File file (λ text. judge wanted.AnyText text (on_data input running))
+plan_of (attempt source input) = load Source source (λ text. judge wanted.Source text (on_data input trying))
 
 -- ---- files, where they are told
 
@@ -66,25 +79,17 @@ IsTooLong (Some files) name limit = (bytes : List ℕ) × (limit < length bytes)
 
 -- By the files, whether the shelf's count rose, the names asked and the outcome. Want of memory may end it at each stage.
 unfoldable pub Ends : Plan → Files → Type 0 → List (List ℕ) → Result Output Stop → Type 0
-Ends (load word name limit next) files rose names outcome =
+Ends (load word name next) files rose names outcome =
     ((names ≡ []) × (outcome ≡ Err NoMemory))
     ⊎ (((names ≡ name ∷ []) × (outcome ≡ Err (ReadFault word)) × rose)
-    ⊎ (((names ≡ name ∷ []) × (outcome ≡ Err (TooLong word)) × IsTooLong files name limit)
-    ⊎ ((bytes : List ℕ) × (rest : List (List ℕ)) × (length bytes ≤ limit) × IsFile files name bytes × (names ≡ name ∷ rest) × Ends (next bytes) files rose rest outcome)))
-Ends (judge kind text next) files rose names outcome =
+    ⊎ (((names ≡ name ∷ []) × (outcome ≡ Err (TooLong word)) × IsTooLong files name (limit_of word))
+    ⊎ ((bytes : List ℕ) × (rest : List (List ℕ)) × (length bytes ≤ limit_of word) × IsFile files name bytes × (names ≡ name ∷ rest) × Ends (next bytes) files rose rest outcome)))
+Ends (ask {A} answers stops next) files rose names outcome =
     ((names ≡ []) × (outcome ≡ Err NoMemory))
-    ⊎ (((refusal : Refusal) × Refuses kind text refusal × (names ≡ []) × (outcome ≡ Err (SourceRefused refusal)))
-    ⊎ ((unit : PlainUnit) × Accepts text unit × Ends (next unit) files rose names outcome))
-Ends (print_unit source) files rose names outcome =
-    (names ≡ []) × (((output : Output) × IsPrinted source output × (outcome ≡ Ok output)) ⊎ (outcome ≡ Err NoMemory))
-Ends (read head text next) files rose names outcome =
-    ((names ≡ []) × (outcome ≡ Err NoMemory))
-    ⊎ (((refusal : DataRefusal) × IsDataRefused head text refusal × (names ≡ []) × (outcome ≡ Err (DataRefused (data_refusal_text (frame_in head) refusal))))
-    ⊎ ((inputs : PlainInputs) × IsMeant head text inputs × Ends (next inputs) files rose names outcome))
-Ends (run_unit source inputs) files rose names outcome =
-    (names ≡ []) × (((output : Output) × IsRun source inputs output × (outcome ≡ Ok output)) ⊎ (outcome ≡ Err NoMemory))
-Ends (try_unit source inputs) files rose names outcome =
-    (names ≡ []) × (((output : Output) × IsTried source inputs output × (outcome ≡ Ok output)) ⊎ (outcome ≡ Err NoMemory))
+    ⊎ (((why : Why) × stops why × (names ≡ []) × (outcome ≡ Err (stop_for why)))
+    ⊎ ((answer : A) × answers answer × Ends (next answer) files rose names outcome))
+Ends (give is) files rose names outcome =
+    (names ≡ []) × (((output : Output) × is output × (outcome ≡ Ok output)) ⊎ (outcome ≡ Err NoMemory))
 
 -- a shelf before and after a plan, and the plan's outcome
 pub record Follows (plan : Plan) (before now : Told) (outcome : Result Output Stop) : Type 0 where
@@ -97,45 +102,31 @@ pub record Follows (plan : Plan) (before now : Told) (outcome : Result Output St
 -- The one way in which a plan ends over files that are told, where only absent files fail and there is memory. Over files
 -- that aren't told, the ways.
 unfoldable pub Defined : Plan → Files → Result Output Stop → Type 0
-Defined (load word name limit next) files outcome =
+Defined (load word name next) files outcome =
     (IsAbsent files name × (outcome ≡ Err (ReadFault word)))
-    ⊎ ((IsTooLong files name limit × (outcome ≡ Err (TooLong word)))
-    ⊎ ((bytes : List ℕ) × (length bytes ≤ limit) × IsFile files name bytes × Defined (next bytes) files outcome))
-Defined (judge kind text next) files outcome =
-    ((refusal : Refusal) × Refuses kind text refusal × (outcome ≡ Err (SourceRefused refusal)))
-    ⊎ ((unit : PlainUnit) × Accepts text unit × Defined (next unit) files outcome)
-Defined (print_unit source) files outcome = (output : Output) × IsPrinted source output × (outcome ≡ Ok output)
-Defined (read head text next) files outcome =
-    ((refusal : DataRefusal) × IsDataRefused head text refusal × (outcome ≡ Err (DataRefused (data_refusal_text (frame_in head) refusal))))
-    ⊎ ((inputs : PlainInputs) × IsMeant head text inputs × Defined (next inputs) files outcome)
-Defined (run_unit source inputs) files outcome = (output : Output) × IsRun source inputs output × (outcome ≡ Ok output)
-Defined (try_unit source inputs) files outcome = (output : Output) × IsTried source inputs output × (outcome ≡ Ok output)
+    ⊎ ((IsTooLong files name (limit_of word) × (outcome ≡ Err (TooLong word)))
+    ⊎ ((bytes : List ℕ) × (length bytes ≤ limit_of word) × IsFile files name bytes × Defined (next bytes) files outcome))
+Defined (ask {A} answers stops next) files outcome =
+    ((why : Why) × stops why × (outcome ≡ Err (stop_for why)))
+    ⊎ ((answer : A) × answers answer × Defined (next answer) files outcome)
+Defined (give is) files outcome = (output : Output) × is output × (outcome ≡ Ok output)
 
--- every stage passes: each file is there and within its limit, and each text is accepted or means inputs
+-- every stage passes: each file is there and within its limit, and each question is answered
 unfoldable pub Passes : Plan → Files → Type 0
-Passes (load word name limit next) files = (bytes : List ℕ) × (length bytes ≤ limit) × IsFile files name bytes × Passes (next bytes) files
-Passes (judge kind text next) files = (unit : PlainUnit) × Accepts text unit × Passes (next unit) files
-Passes (print_unit source) files = Unit {0}
-Passes (read head text next) files = (inputs : PlainInputs) × IsMeant head text inputs × Passes (next inputs) files
-Passes (run_unit source inputs) files = Unit {0}
-Passes (try_unit source inputs) files = Unit {0}
+Passes (load word name next) files = (bytes : List ℕ) × (length bytes ≤ limit_of word) × IsFile files name bytes × Passes (next bytes) files
+Passes (ask {A} answers stops next) files = (answer : A) × answers answer × Passes (next answer) files
+Passes (give is) files = Unit {0}
 
 -- the stages before this load pass
 unfoldable pub Reaches : Plan → Files → FileWord → Type 0
-Reaches (load word name limit next) files at =
-    (at ≡ word) ⊎ ((bytes : List ℕ) × (length bytes ≤ limit) × IsFile files name bytes × Reaches (next bytes) files at)
-Reaches (judge kind text next) files at = (unit : PlainUnit) × Accepts text unit × Reaches (next unit) files at
-Reaches (print_unit source) files at = ⊥
-Reaches (read head text next) files at = (inputs : PlainInputs) × IsMeant head text inputs × Reaches (next inputs) files at
-Reaches (run_unit source inputs) files at = ⊥
-Reaches (try_unit source inputs) files at = ⊥
+Reaches (load word name next) files at =
+    (at ≡ word) ⊎ ((bytes : List ℕ) × (length bytes ≤ limit_of word) × IsFile files name bytes × Reaches (next bytes) files at)
+Reaches (ask {A} answers stops next) files at = (answer : A) × answers answer × Reaches (next answer) files at
+Reaches (give is) files at = ⊥
 
 -- the names that a plan asks for, whatever the files hold, are these from the first on
 abbrev pub AsksOnly : Plan → List (List ℕ) → Type 0
-AsksOnly (load word name limit next) [] = ⊥
-AsksOnly (load word name limit next) (first ∷ names) = (name ≡ first) × ((bytes : List ℕ) → AsksOnly (next bytes) names)
-AsksOnly (judge kind text next) names = (unit : PlainUnit) → AsksOnly (next unit) names
-AsksOnly (print_unit source) names = Unit {0}
-AsksOnly (read head text next) names = (inputs : PlainInputs) → AsksOnly (next inputs) names
-AsksOnly (run_unit source inputs) names = Unit {0}
-AsksOnly (try_unit source inputs) names = Unit {0}
+AsksOnly (load word name next) [] = ⊥
+AsksOnly (load word name next) (first ∷ names) = (name ≡ first) × ((bytes : List ℕ) → AsksOnly (next bytes) names)
+AsksOnly (ask {A} answers stops next) names = (answer : A) → AsksOnly (next answer) names
+AsksOnly (give is) names = Unit {0}

@@ -1,11 +1,12 @@
 -- The text that is printed for a source: which properties it has, whatever it is.
 use Rattle.std.specs.Prelude.{◌≡◌, ◌++◌, Some, codes}
 use Rattle.c_tree.specs.Plain.{PlainUnit}
+use Rattle.c_tree.specs.Grammar.Texts.{IsText}
 use Rattle.c_tree.specs.Layout.{layout}
 use Rattle.acceptance.specs.Printed.{IsAcceptedPrinted, StoresNothingBefore}
 use Rattle.guard_laws.specs.Guards.{Guards, HasTotals, MakesSameAccesses, NamesTheArray}
-use Rattle.balance_cli.specs.declared.stages.Finish.TheVariants.{Done}
-use Rattle.balance_cli.specs.declared.stages.Output.{Output}
+use Rattle.command_line.specs.declared.outcome.Finish.TheVariants.{Done}
+use Rattle.command_line.specs.declared.outcome.Output.{Output}
 
 -- how a unit that is made for a source begins: the function is called `bal_fn_` and the source's name, and takes what the source takes
 pub record HasHeadOf (source unit : PlainUnit) : Type 0 where
@@ -14,11 +15,13 @@ pub record HasHeadOf (source unit : PlainUnit) : Type 0 where
   pub name : unit.name ≡ codes "bal_fn_" ++ source.name
   pub params : unit.params ≡ source.params
 
--- The text of a printed unit that has the source's head, is accepted, stores into no array before it begins, guards the
--- source and names the array of a fault, makes the source's accesses with the same values, and has the defined totals.
+-- The layout of a printed unit, which is a text of it by the grammar. The unit has the source's head, is accepted, stores
+-- into no array before it begins, guards the source and names the array of a fault, makes the source's accesses with the
+-- same values, and has the defined totals.
 pub record IsPrinted (source : PlainUnit) (output : Output) : Type 0 where
   pub unit : PlainUnit
   pub text : output.text ≡ layout unit
+  pub is_text : IsText output.text unit
   pub head : HasHeadOf source unit
   pub accepted : IsAcceptedPrinted unit
   pub stores : StoresNothingBefore unit

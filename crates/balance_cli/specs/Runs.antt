@@ -12,9 +12,9 @@ use Rattle.instrumentation.specs.Guarded.{guarded}
 use Rattle.interp.specs.Finished.{verdict_in, IsEnded}
 use Rattle.balance_cli.specs.Frames.{frame_in}
 use Rattle.balance_cli.specs.Printed.{HasHeadOf}
-use Rattle.balance_cli.specs.declared.stages.Finish.{Finish}
-use Rattle.balance_cli.specs.declared.stages.Finish.TheVariants.{Done, Reported, Outside}
-use Rattle.balance_cli.specs.declared.stages.Output.{Output}
+use Rattle.command_line.specs.declared.outcome.Finish.{Finish}
+use Rattle.command_line.specs.declared.outcome.Finish.TheVariants.{Done, Reported, Outside}
+use Rattle.command_line.specs.declared.outcome.Output.{Output}
 
 -- how a command ends that has written the output of a run
 abbrev pub finish_of : End → Finish

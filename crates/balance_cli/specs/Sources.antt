@@ -8,6 +8,7 @@ use Rattle.c_tree.specs.declared.refusal.Refusal.{Refusal}
 use Rattle.c_tree.specs.declared.refusal.Refusal.TheVariants as refusal
 use Rattle.c_tree.specs.declared.token.Token.{Token}
 use Rattle.c_parser.specs.Answers.{HasNoUnit}
+use Rattle.balance_cli.specs.Whys.{Why, of_source, of_data}
 use Rattle.balance_cli.specs.declared.judging.Wanted.{Wanted}
 use Rattle.balance_cli.specs.declared.judging.Wanted.TheVariants.{Source, AnyText}
 
@@ -53,3 +54,8 @@ Refuses wanted text (refusal.Lexical byte) = StopsAt text byte
 Refuses wanted text (refusal.Syntax byte) = HasNoUnitFor wanted text byte
 Refuses wanted text refusal.Unbuilt = IsUnbuiltFor wanted text
 Refuses wanted text _ = ⊥
+
+-- the reasons for which a text is refused
+abbrev pub IsSourceWhy : Wanted → List ℕ → Why → Type 0
+IsSourceWhy wanted text (of_source why) = Refuses wanted text why
+IsSourceWhy wanted text (of_data words) = ⊥

@@ -12,14 +12,16 @@ use Rattle.c_tree.specs.declared.unit.Unit.{Unit as TheUnit}
 use Rattle.data_file.specs.declared.refusal.DataRefusal.{DataRefusal}
 use Rattle.data_file.specs.declared.refusal.DataRefusal.TheVariants as data_refusal
 use Rattle.interp.specs.Finished.{inputs_in}
-use Rattle.balance_cli.specs.Frames.{frame_in}
-use Rattle.balance_cli.specs.Inputs.{IsMeant, IsDataRefused, data_refusal_text}
+use Rattle.balance_cli.specs.Inputs.{IsMeant, IsDataWhy}
+use Rattle.command_line.specs.DataRefusals.{data_refusal_text}
 use Rattle.balance_cli.specs.Plans.{IsFile, IsTooLong}
-use Rattle.balance_cli.specs.Sources.{Accepts, Refuses}
+use Rattle.balance_cli.specs.Sources.{Accepts, Refuses, IsSourceWhy}
+use Rattle.balance_cli.specs.Whys.{StopsFor}
+use Rattle.command_line.specs.Lines.{limit_of}
 use Rattle.balance_cli.specs.declared.judging.Wanted.{Wanted}
-use Rattle.balance_cli.specs.declared.stages.FileWord.{FileWord}
-use Rattle.balance_cli.specs.declared.stages.Stop.{Stop}
-use Rattle.balance_cli.specs.declared.stages.Stop.TheVariants.{ReadFault, TooLong, SourceRefused, DataRefused, NoMemory}
+use Rattle.command_line.specs.declared.outcome.FileWord.{FileWord}
+use Rattle.command_line.specs.declared.outcome.Stop.{Stop}
+use Rattle.command_line.specs.declared.outcome.Stop.TheVariants.{ReadFault, TooLong, SourceRefused, DataRefused, NoMemory}
 
 -- these names were asked for, and the shelf's files are as they were
 pub record Asks (before now : Told) (names : List (List ℕ)) : Type 0 where
@@ -28,27 +30,18 @@ pub record Asks (before now : Told) (names : List (List ℕ)) : Type 0 where
   pub asked : now.asked ≡ option_map (λ asked. asked ++ names) before.asked
 
 -- one load
-abbrev pub IsLoad : FileWord → List ℕ → ℕ → Told → Told → Result (List ℕ) Stop → Type 0
-IsLoad word name limit before now (Ok bytes) = Asks before now (name ∷ []) × (length bytes ≤ limit) × IsFile before.files name bytes
-IsLoad word name limit before now (Err (ReadFault w)) = Asks before now (name ∷ []) × (w ≡ word) × Rose before.faults now.faults
-IsLoad word name limit before now (Err (TooLong w)) = Asks before now (name ∷ []) × (w ≡ word) × IsTooLong before.files name limit
-IsLoad word name limit before now (Err (SourceRefused why)) = ⊥
-IsLoad word name limit before now (Err (DataRefused why)) = ⊥
-IsLoad word name limit before now (Err NoMemory) = Asks before now []
-
--- the cause that a refusal is
-abbrev pub stop_of : Refusal → Stop
-stop_of refusal.OutOfMemory = NoMemory
-stop_of why = SourceRefused why
+abbrev pub IsLoad : FileWord → List ℕ → Told → Told → Result (List ℕ) Stop → Type 0
+IsLoad word name before now (Ok bytes) = Asks before now (name ∷ []) × (length bytes ≤ limit_of word) × IsFile before.files name bytes
+IsLoad word name before now (Err (ReadFault w)) = Asks before now (name ∷ []) × (w ≡ word) × Rose before.faults now.faults
+IsLoad word name before now (Err (TooLong w)) = Asks before now (name ∷ []) × (w ≡ word) × IsTooLong before.files name (limit_of word)
+IsLoad word name before now (Err (SourceRefused why)) = ⊥
+IsLoad word name before now (Err (DataRefused why)) = ⊥
+IsLoad word name before now (Err NoMemory) = Asks before now []
 
 -- one text, of which a source or any text is wanted
 abbrev pub IsJudged : Wanted → List ℕ → Result TheUnit Stop → Type 0
 IsJudged kind text (Ok u) = Accepts text (unit u)
-IsJudged kind text (Err (SourceRefused why)) = Refuses kind text why
-IsJudged kind text (Err (ReadFault w)) = ⊥
-IsJudged kind text (Err (TooLong w)) = ⊥
-IsJudged kind text (Err (DataRefused why)) = ⊥
-IsJudged kind text (Err NoMemory) = Unit {0}
+IsJudged kind text (Err cause) = StopsFor (IsSourceWhy kind text) cause
 
 -- the same with the refusal as it is
 abbrev pub IsTaken : Wanted → List ℕ → Result TheUnit Refusal → Type 0
@@ -63,8 +56,4 @@ IsDataStop f why cause = (cause ≡ NoMemory) ⊎ ((why ≡ data_refusal.OutOfMe
 -- one data text
 abbrev pub IsRead : PlainUnit → List ℕ → Result Inputs Stop → Type 0
 IsRead head text (Ok i) = IsMeant head text (inputs_in i)
-IsRead head text (Err (DataRefused words)) = (why : DataRefusal) × IsDataRefused head text why × (words ≡ data_refusal_text (frame_in head) why)
-IsRead head text (Err NoMemory) = Unit {0}
-IsRead head text (Err (SourceRefused why)) = ⊥
-IsRead head text (Err (ReadFault w)) = ⊥
-IsRead head text (Err (TooLong w)) = ⊥
+IsRead head text (Err cause) = StopsFor (IsDataWhy head text) cause

@@ -3,20 +3,21 @@ use Rattle.std.specs.Prelude.{◌≡◌, ◌⊎◌, ℕ, List, [], ◌++◌, Opt
 use Rattle.edge.specs.Causes.{Rose}
 use Rattle.edge.specs.Sink.{appended, AppendsPart}
 use Rattle.c_tree.specs.declared.refusal.Refusal.{Refusal}
-use Rattle.balance_cli.specs.Calls.{Tries, OnlyTells}
-use Rattle.balance_cli.specs.Lines.{line_of, usage_line, write_line, memory_line}
+use Rattle.balance_cli.specs.Calls.{OnlyTells}
+use Rattle.command_line.specs.Tried.{Tries}
+use Rattle.command_line.specs.Lines.{line_of, usage_line, write_line, memory_line}
 use Rattle.balance_cli.specs.Met.{Met, files_before}
-use Rattle.balance_cli.specs.Orders.{Order, files_of}
+use Rattle.command_line.specs.Orders.{Order, files_of}
 use Rattle.balance_cli.specs.Plans.{plan_of, Defined, Passes, Reaches}
-use Rattle.balance_cli.specs.Statuses.{finish_status, ideal_status}
-use Rattle.balance_cli.specs.declared.stages.FileWord.{FileWord}
-use Rattle.balance_cli.specs.declared.stages.Finish.{Finish}
-use Rattle.balance_cli.specs.declared.stages.Finish.TheVariants as finish
-use Rattle.balance_cli.specs.declared.stages.Output.{Output}
-use Rattle.balance_cli.specs.declared.stages.Stop.{Stop}
-use Rattle.balance_cli.specs.declared.stages.Stop.TheVariants as stop
-use Rattle.balance_cli.specs.declared.status.Status.{Status}
-use Rattle.balance_cli.specs.declared.status.Status.TheVariants.{Done, Reported, Usage, ReadFault, WriteFault, SourceRefused, DataRefused, FlipRefused, Outside, NoMemory, TooLong}
+use Rattle.command_line.specs.Statuses.{finish_status, ideal_status}
+use Rattle.command_line.specs.declared.outcome.FileWord.{FileWord}
+use Rattle.command_line.specs.declared.outcome.Finish.{Finish}
+use Rattle.command_line.specs.declared.outcome.Finish.TheVariants as finish
+use Rattle.command_line.specs.declared.outcome.Output.{Output}
+use Rattle.command_line.specs.declared.outcome.Stop.{Stop}
+use Rattle.command_line.specs.declared.outcome.Stop.TheVariants as stop
+use Rattle.command_line.specs.declared.status.Status.{Status}
+use Rattle.command_line.specs.declared.status.Status.TheVariants.{Done, Reported, Usage, ReadFault, WriteFault, SourceRefused, DataRefused, FlipRefused, Outside, NoMemory, TooLong}
 
 -- 0, 1, 8: the defined text stands whole on the output, and there is no line
 pub record IsDone (order : Order) (how : Finish) (met : Met) : Type 0 where

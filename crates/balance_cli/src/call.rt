@@ -1,60 +1,27 @@
 //! The top call.
 
 ghost use Rattle.std.specs.Prelude.{◌≡◌, ◌⊎◌, None, map, string_bytes};
-ghost use Rattle.balance_cli.specs.Calls.{IsWritten, IsCut, IsTold, IsCall, Tries};
-ghost use Rattle.balance_cli.specs.Commands.{ordered};
-ghost use Rattle.balance_cli.specs.Lines.{memory_line};
+ghost use Rattle.balance_cli.specs.Calls.{IsWritten, IsCut, IsTold, IsCall};
+ghost use Rattle.command_line.specs.Commands.{ordered};
 ghost use Rattle.balance_cli.specs.Met.{met};
-ghost use Rattle.balance_cli.specs.Orders.{order_of};
-ghost use Rattle.balance_cli.specs.Statuses.{status_of as status_at, finish_status};
+ghost use Rattle.command_line.specs.Orders.{order_of};
 ghost use Rattle.balance_cli.specs.Table.{Cause, AsksInOrder, IsComplete, EndsAsDefined};
 
-use crate::lines::{CANNOT_WRITE, NO_MEMORY, USAGE, line, try_line};
-use crate::stages::{Finish, Output, Stop, prepared};
-use crate::status::Status;
-use crate::words::{Command, command_of};
+use crate::stages::prepared;
 use acceptance_laws::one_loop_is_accepted;
 use c_lexer::one_reading;
 use c_parser::one_unit;
+use command_line::{
+    Command, Output, Status, Stop, cannot_write, command_of, finished, line, no_memory, status_of,
+    try_line, usage,
+};
 use data_file::{one_answer, some_answer};
 use edge::{Shelf, Sink, write_all};
 use grammar_reading::unit_or_none;
 use guard_laws::one_loop_guards;
 use one_loop::one_loop_or_not;
 use std::alloc::Global;
-
-// The status of a cause.
-fn status_of(cause: &Stop) -> Status
-    ensures { result ≡ status_at cause.now }
-{
-    match cause {
-        Stop::ReadFault(_) => Status::ReadFault,
-        Stop::TooLong(_) => Status::TooLong,
-        Stop::SourceRefused(_) => Status::SourceRefused,
-        Stop::DataRefused(_) => Status::DataRefused,
-        Stop::NoMemory => Status::NoMemory,
-    }
-}
-
-// The status of a text that was written whole.
-fn finished(finish: Finish) -> Status
-    ensures { result ≡ finish_status finish }
-{
-    match finish {
-        Finish::Done => Status::Done,
-        Finish::Reported => Status::Reported,
-        Finish::Outside => Status::Outside,
-    }
-}
-
-/// Says that memory is wanting.
-pub fn no_memory<E: Sink>(err: &mut E) -> Status
-    ensures status { result ≡ Status.NoMemory }
-    ensures line { Tries (E.held err.old) (E.held err.new) memory_line }
-{
-    try_line(err, NO_MEMORY);
-    Status::NoMemory
-}
+use tree_texts::instrumented_units_have_texts;
 
 fn refused<E: Sink>(alloc: Global, command: Command<'_>, cause: &Stop, err: &mut E) -> Status
     ensures { IsTold (ordered command.entry) cause.now (E.held err.old) (E.held err.new) result }
@@ -75,7 +42,7 @@ fn written<O: Sink, E: Sink>(output: &Output, out: &mut O, err: &mut E) -> Statu
     match write_all(out, output.text.as_slice()) {
         Ok(()) => finished(output.finish),
         Err(_) => {
-            try_line(err, CANNOT_WRITE);
+            try_line(err, cannot_write());
             Status::WriteFault
         }
     }
@@ -92,7 +59,7 @@ fn answered<F: Shelf, O: Sink, E: Sink>(
 {
     match command_of(words) {
         None => {
-            try_line(err, USAGE);
+            try_line(err, usage());
             Status::Usage
         }
         Some(command) => match prepared(alloc, command, shelf) {
@@ -132,6 +99,7 @@ pub fn balance<F: Shelf, O: Sink, E: Sink>(
     some_answer();
     one_loop_guards();
     one_loop_is_accepted();
+    instrumented_units_have_texts();
     answered(alloc, words, shelf, out, err)
 }
 

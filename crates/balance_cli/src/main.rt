@@ -7,21 +7,15 @@ ghost use Rattle.std.specs.Prelude.{◌≡◌, IfOk, drop};
 ghost use Rattle.std.specs.Vec.Iter.{into_iter_items};
 
 mod call;
-mod data_refusals;
 mod frames;
 mod inputs;
 mod judging;
-mod layout;
-mod lines;
-mod refusals;
 mod runs;
 mod stages;
-mod status;
-mod words;
 
-use call::{balance, no_memory};
+use call::balance;
+use command_line::{Status, no_memory};
 use edge::{FileShelf, StdSink};
-use status::Status;
 use std::alloc::{AllocError, Global};
 use std::env;
 use std::io::ErrorKind;

@@ -7,11 +7,11 @@ ghost use Rattle.c_tree.specs.Trees.{unit as unit_in};
 ghost use Rattle.data_file.specs.Conditions.{IsEndOf};
 ghost use Rattle.interp.specs.Finished.{inputs_in, verdict_in};
 ghost use Rattle.balance_cli.specs.Runs.{finish_of as finish_at, IsShown, IsRun, IsTried};
-ghost use Rattle.balance_cli.specs.declared.stages.Stop.TheVariants.{NoMemory};
+ghost use Rattle.command_line.specs.declared.outcome.Stop.TheVariants.{NoMemory};
 
 use crate::frames::frame_of;
-use crate::stages::{Finish, Output, Stop};
 use c_tree::{Ended, Frame, Inputs, Unit, Verdict};
+use command_line::{Finish, Output, Stop};
 use data_file::output;
 use edge::ByteList;
 use interp::run;

@@ -1,7 +1,7 @@
 //! Calls over files and sinks in memory.
 
 use super::balance;
-use crate::status::Status;
+use command_line::Status;
 use edge::{ByteList, FileList, MemShelf, MemSink, NamedFile, Numbers};
 use std::alloc::{AllocError, Global};
 use std::process::Abort;

@@ -28,6 +28,7 @@ returns-clause-complete g c = complete (record {
   guards = c.one_loop_guards.ensures;
   accepted = c.one_loop_is_accepted.ensures.accepted;
   stores = c.one_loop_is_accepted.ensures.stores;
+  printed = c.instrumented_units_have_texts.ensures.one_loop;
 }) _ _ _ c.answered.ensures
 
 pub returns-clause-determined : goal.returns-clause-determined
@@ -44,4 +45,5 @@ returns-clause-determined g c = determined_end (record {
   guards = c.one_loop_guards.ensures;
   accepted = c.one_loop_is_accepted.ensures.accepted;
   stores = c.one_loop_is_accepted.ensures.stores;
+  printed = c.instrumented_units_have_texts.ensures.one_loop;
 }) _ _ _ c.answered.ensures

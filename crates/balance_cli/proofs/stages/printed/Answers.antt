@@ -1,12 +1,13 @@
-use Rattle.std.proofs.Common.{refl}
+use Rattle.std.proofs.Common.{◌∙◌, refl}
 use Rattle.c_tree.specs.Trees.{unit as unit_of}
-use Rattle.balance_cli.proofs.Heads.{made_head}
+use Rattle.balance_cli.proofs.Heads.{made_head, spelled_by}
 use Rattle.balance_cli.proofs.stages.printed.Goals as goal
 
 pub returns : goal.returns
 returns c = record {
   unit = unit_of c.in_ok-guarded.guarded;
-  text = c.in_ok-text.ensures;
+  text = c.new.ensures ∙ c.in_ok-text.ensures;
+  is_text = spelled_by _ _ _ c.instrumented_units_have_texts.ensures.one_loop c.requires c.in_ok-guarded.ensures.made (c.new.ensures ∙ c.in_ok-text.ensures);
   head = made_head _ _ c.in_ok-guarded.ensures.made;
   accepted = c.in_ok-guarded.ensures.accepted;
   stores = c.in_ok-guarded.ensures.stores;

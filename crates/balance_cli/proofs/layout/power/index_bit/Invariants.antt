@@ -1,6 +1,0 @@
-use Rattle.std.proofs.Common.{◌≡◌, ◌+◌, ◌^◌}
-use Rattle.balance_cli.specs.Powers.{all_digits}
-use Rattle.balance_cli.proofs.layout.power.index_bit.Given as goal
-
-abbrev pub invariant-loop-doubling : goal.invariant-loop-doubling
-invariant-loop-doubling l = l.digits.items ≡ all_digits (2 ^ (16 + l._doubling))

@@ -1,9 +1,0 @@
--- What a command of the code orders.
-use Rattle.balance_cli.specs.Orders.{Order, print, run_file, attempt}
-use Rattle.balance_cli.specs.declared.words.Command.{Command}
-use Rattle.balance_cli.specs.declared.words.Command.TheVariants.{Print, Run, Attempt}
-
-abbrev pub ordered : Command → Order
-ordered (Print source) = print source.now
-ordered (Run file input) = run_file file.now input.now
-ordered (Attempt source input) = attempt source.now input.now
