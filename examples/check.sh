@@ -3,6 +3,7 @@
 # it by gcc, and by clang where it is installed.
 # - With the values of examples/shift.data it prints the cells and the returned word.
 # - With each size up to 200 and cells of a generator it leaves what the source leaves, and returns 0.
+# - It is called from C and from C++ as examples/call.c and examples/call.cpp show, which decode the word.
 # - With one bit of one cell inverted before an access, by a line that is put into the text, it returns what is wanted.
 # The argument is the program, if it isn't where `make build` leaves it.
 set -eu
@@ -10,6 +11,7 @@ cd "$(dirname "$0")/.."
 program=${1:-$PWD/bin/balance}
 work=$(mktemp -d)
 trap 'rm -rf "$work"' EXIT
+flags='-std=gnu17 -O2 -Wall -Wextra -Wno-unknown-pragmas -Wno-unused-function -Werror'
 
 "$program" print examples/shift.c > "$work/guarded.c"
 cmp examples/shift.guarded.c "$work/guarded.c"
@@ -50,6 +52,15 @@ int main(void) {
 }
 C
 
+# The callers, each with the text as an object of its own.
+called() { # C-COMPILER C++-COMPILER
+  "$1" $flags -c examples/shift.guarded.c -o "$work/guarded.o"
+  "$1" $flags -o "$work/call" examples/call.c "$work/guarded.o"
+  expect "$1, call.c" '5 6 7 8' "$("$work/call")"
+  "$2" -std=c++17 -O2 -Wall -Wextra -Werror -o "$work/call" examples/call.cpp "$work/guarded.o"
+  expect "$2, call.cpp" '5 6 7 8' "$("$work/call")"
+}
+
 # The text with a bit inverted before the access of a place: an even place is a load, an odd one the store behind it.
 inverted() { # CELL BIT PLACE
   awk -v cell="$1" -v bit="$2" -v place="$3" '
@@ -62,8 +73,8 @@ inverted() { # CELL BIT PLACE
 }
 
 compiled() { # COMPILER SOURCE
-  "$1" -std=gnu17 -O2 -Wall -Wextra -Wno-unknown-pragmas -Wno-unused-function -Werror \
-    -I "$work" -I examples -o "$work/made" "$work/$2" && "$work/made"
+  # shellcheck disable=SC2086
+  "$1" $flags -I "$work" -I examples -o "$work/made" "$work/$2" && "$work/made"
 }
 
 expect() { # WHAT WANTED GOT
@@ -84,6 +95,7 @@ for compiler in gcc clang; do
   expect "$compiler" "$(printf 'A = 5 6 7 8\n0')" "$got"
   expect "$compiler, beside try" "$(head -1 "$work/tried")" "$(printf '%s\n' "$got" | head -1)"
   compiled "$compiler" beside.c
+  called "$compiler" "$(printf %s "$compiler" | sed 's/gcc/g++/; s/clang/clang++/')"
   while IFS=: read -r fault cells word; do
     # shellcheck disable=SC2086
     inverted $fault > "$work/text.c"
