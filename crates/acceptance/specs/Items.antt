@@ -1,5 +1,5 @@
 -- The items of a unit in text order: the head, then each statement but `begin`, with the loops around it and the tables before it.
-use Rattle.std.specs.Prelude.{ℕ, Bool, false, ◌||◌, ◌&&◌, not, List, [], ◌∷◌, ◌++◌, bytes_eq}
+use Rattle.std.specs.Prelude.{ℕ, suc, Bool, false, ◌||◌, ◌&&◌, not, if◌then◌else◌, List, [], ◌∷◌, ◌++◌, Option, Some, None, bytes_eq}
 use Rattle.std.specs.List.{list_all}
 use Rattle.c_tree.specs.Plain.{Word, PlainExpr, PlainParam, int_param, array_param, PlainStmt, loop, choice, assign, table, begin, check, verdict, PlainStmts, no_stmts, more_stmts, PlainUnit}
 use Rattle.c_tree.specs.Names.{is_among}
@@ -49,6 +49,21 @@ pub record Condition : Type 0 where
 -- it holds at no item of the unit
 abbrev pub holds_nowhere : PlainUnit → Condition → Bool
 holds_nowhere u c = not c.head && list_all (λ i. not (c.inside i)) (items_all u.body [] [])
+
+-- the first item at which a test holds, the items being numbered from k on
+abbrev pub first_where : (Item → Bool) → ℕ → List Item → Option ℕ
+first_where p k [] = None
+first_where p k (i ∷ is) = if p i then Some k else first_where p (suc k) is
+
+-- the least item at which a condition holds; the head is 0
+abbrev pub least_item : PlainUnit → Condition → Option ℕ
+least_item u c = if c.head then Some 0 else first_where c.inside 1 (items_all u.body [] [])
+
+-- Of the numbers of refusals, in order and each with the least item at which it holds, the first that holds anywhere.
+abbrev pub lowest : List (ℕ × Option ℕ) → Option (ℕ × ℕ)
+lowest [] = None
+lowest ((n, None) ∷ js) = lowest js
+lowest ((n, Some item) ∷ js) = Some (n, item)
 
 -- ---- names
 

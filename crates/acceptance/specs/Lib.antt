@@ -1,6 +1,11 @@
 pub mod Affine
 pub mod Head
 pub mod Items
+pub mod Limits
+pub mod OfGrammar
+pub mod Parts
 pub mod Printed
 pub mod Runnable
+pub mod Sources
 pub mod Worked
+pub mod WorkedSources

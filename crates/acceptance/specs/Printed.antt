@@ -1,5 +1,5 @@
 -- Which printed units are accepted: one condition for each refusal that a printed text can have.
-use Rattle.std.specs.Prelude.{◌≡◌, ℕ, suc, Bool, true, false, not, ◌&&◌, ◌||◌, if◌then◌else◌, nat_eq, nat_lt, List, [], ◌∷◌, length, Option, Some, None, IsTrue, bytes_eq, codes}
+use Rattle.std.specs.Prelude.{◌≡◌, ℕ, suc, Bool, true, false, not, ◌&&◌, ◌||◌, if◌then◌else◌, nat_eq, nat_lt, List, [], ◌∷◌, map, length, Option, Some, None, bytes_eq, codes}
 use Rattle.std.specs.List.{list_all}
 use Rattle.c_tree.specs.Plain.{Word, PlainExpr, lit, var, cell, un, bin, cast, test, umin, umax, least, greatest, widen, big, PlainExprs, no_exprs, more_exprs, PlainTest, PlainStmt, loop, choice, assign, table, begin, check, verdict, PlainStmts, no_stmts, more_stmts, PlainParam, int_param, array_param, PlainUnit}
 use Rattle.c_tree.specs.Names.{is_among}
@@ -9,7 +9,8 @@ use Rattle.c_tree.specs.declared.expr.UnOp.{UnOp}
 use Rattle.c_tree.specs.declared.expr.UnOp.TheVariants.{Neg, Inv}
 use Rattle.c_tree.specs.declared.expr.BinOp.{BinOp}
 use Rattle.c_tree.specs.declared.expr.BinOp.TheVariants.{Add, Sub, Mul, Div, Rem, Shl, Shr}
-use Rattle.acceptance.specs.Items.{Condition, holds_nowhere, Scope, scope_at, is_array, is_scalar, is_declared, is_known, is_signed_name}
+use Rattle.acceptance.specs.Items.{Condition, least_item, lowest, Scope, scope_at, is_array, is_scalar, is_declared, is_known, is_signed_name}
+use Rattle.acceptance.specs.OfGrammar.{IsOfGrammar}
 use Rattle.acceptance.specs.Head.{list_of, uses_known, extents_known, head_names_twice, bad_range, extent_not_affine, extent_terms_too_large, extent_too_wide, extent_not_positive}
 
 -- ---- names
@@ -280,16 +281,25 @@ wrong_kind u = record {
 
 -- ---- accepted
 
--- the conditions, in the order of their numbers
-abbrev pub printed_conditions : PlainUnit → List Condition
+-- the conditions with their numbers, in order
+abbrev pub printed_conditions : PlainUnit → List (ℕ × Condition)
 printed_conditions u =
-    name_twice u ∷ name_unknown u ∷ bad_range u ∷ at_head (extent_not_affine u) ∷ at_head (extent_terms_too_large u) ∷ at_head (extent_too_wide u)
-    ∷ at_head (extent_not_positive u) ∷ wrong_dimensions u ∷ bad_literal u ∷ wrong_kind u ∷ []
+    (4, name_twice u) ∷ (5, name_unknown u) ∷ (7, bad_range u) ∷ (9, at_head (extent_not_affine u)) ∷ (10, at_head (extent_terms_too_large u))
+    ∷ (11, at_head (extent_too_wide u)) ∷ (12, at_head (extent_not_positive u)) ∷ (13, wrong_dimensions u) ∷ (16, bad_literal u) ∷ (18, wrong_kind u) ∷ []
 
--- A printed unit is accepted where none of its conditions holds anywhere.
-pub record IsAcceptedPrinted (u : PlainUnit) : Type 0 where
+-- The lowest number that holds anywhere, with the least item at which it holds.
+abbrev pub printed_refusal : PlainUnit → Option (ℕ × ℕ)
+printed_refusal u = lowest (map (λ c. (c.0, least_item u c.1)) (printed_conditions u))
+
+-- none of them holds anywhere
+pub record IsUnrefusedPrinted (u : PlainUnit) : Type 0 where
   pub version : u.version ≡ Some 1
-  pub refused_nowhere : IsTrue (list_all (holds_nowhere u) (printed_conditions u))
+  pub refused_nowhere : printed_refusal u ≡ None
+
+-- A printed unit is accepted where it is of the grammar and none of its conditions holds anywhere.
+pub record IsAcceptedPrinted (u : PlainUnit) : Type 0 where
+  pub of_grammar : IsOfGrammar u
+  pub unrefused : IsUnrefusedPrinted u
 
 -- ---- before `begin`
 
