@@ -1,11 +1,12 @@
 pub mod Affine
 pub mod Head
+pub mod Heights
 pub mod Items
 pub mod Limits
-pub mod OfGrammar
 pub mod Parts
 pub mod Printed
 pub mod Runnable
 pub mod Sources
+pub mod Trees
 pub mod Worked
 pub mod WorkedSources

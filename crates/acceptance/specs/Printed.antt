@@ -10,7 +10,7 @@ use Rattle.c_tree.specs.declared.expr.UnOp.TheVariants.{Neg, Inv}
 use Rattle.c_tree.specs.declared.expr.BinOp.{BinOp}
 use Rattle.c_tree.specs.declared.expr.BinOp.TheVariants.{Add, Sub, Mul, Div, Rem, Shl, Shr}
 use Rattle.acceptance.specs.Items.{Condition, least_item, lowest, Scope, scope_at, is_array, is_scalar, is_declared, is_known, is_signed_name}
-use Rattle.acceptance.specs.OfGrammar.{IsOfGrammar}
+use Rattle.acceptance.specs.Trees.{IsPrintedTree}
 use Rattle.acceptance.specs.Head.{list_of, uses_known, extents_known, head_names_twice, bad_range, extent_not_affine, extent_terms_too_large, extent_too_wide, extent_not_positive}
 
 -- ---- names
@@ -291,15 +291,10 @@ printed_conditions u =
 abbrev pub printed_refusal : PlainUnit → Option (ℕ × ℕ)
 printed_refusal u = lowest (map (λ c. (c.0, least_item u c.1)) (printed_conditions u))
 
--- none of them holds anywhere
-pub record IsUnrefusedPrinted (u : PlainUnit) : Type 0 where
-  pub version : u.version ≡ Some 1
-  pub refused_nowhere : printed_refusal u ≡ None
-
--- A printed unit is accepted where it is of the grammar and none of its conditions holds anywhere.
+-- A printed unit is accepted where it is a tree of the grammar and none of its conditions holds anywhere.
 pub record IsAcceptedPrinted (u : PlainUnit) : Type 0 where
-  pub of_grammar : IsOfGrammar u
-  pub unrefused : IsUnrefusedPrinted u
+  pub tree : IsPrintedTree u
+  pub refused_nowhere : printed_refusal u ≡ None
 
 -- ---- before `begin`
 

@@ -9,7 +9,7 @@ use Rattle.acceptance.specs.Head.{bad_range, intervals_of, extent_not_affine, ex
 use Rattle.acceptance.specs.Printed.{name_twice, name_unknown, at_head, wrong_dimensions, bad_literal}
 use Rattle.acceptance.specs.Parts.{is_data, item_parts_hold, are_regular, cells_hold, intervals_in}
 use Rattle.acceptance.specs.Limits.{Excess, too_many}
-use Rattle.acceptance.specs.OfGrammar.{IsOfGrammar}
+use Rattle.acceptance.specs.Trees.{IsSourceTree}
 
 -- ---- declared names
 
@@ -108,15 +108,10 @@ judged u =
 abbrev pub refusal : PlainUnit → Option (ℕ × ℕ)
 refusal u = lowest (judged u)
 
--- none of them holds anywhere
-pub record IsUnrefusedSource (u : PlainUnit) : Type 0 where
-  pub version : u.version ≡ None
-  pub refused_nowhere : refusal u ≡ None
-
--- A source is accepted where it is of the grammar and none of its conditions holds anywhere.
+-- A source is accepted where it is a tree of the grammar and none of its conditions holds anywhere.
 pub record IsAcceptedSource (u : PlainUnit) : Type 0 where
-  pub of_grammar : IsOfGrammar u
-  pub unrefused : IsUnrefusedSource u
+  pub tree : IsSourceTree u
+  pub refused_nowhere : refusal u ≡ None
 
 -- ---- sources without irregular subscripts
 

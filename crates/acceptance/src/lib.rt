@@ -7,15 +7,15 @@ ghost use Rattle.c_tree.specs.declared.expr.BinOp.TheVariants.{Add, Rem, Shl, Su
 ghost use Rattle.c_tree.specs.declared.expr.Rel.TheVariants.{Lt};
 ghost use Rattle.c_tree.specs.declared.refusal.Counted.TheVariants.{Parameters, Depth, Reads};
 ghost use Rattle.acceptance.specs.Limits.{too_many};
-ghost use Rattle.acceptance.specs.Printed.{IsUnrefusedPrinted, name_twice, name_unknown, wrong_dimensions, wrong_kind};
-ghost use Rattle.acceptance.specs.Sources.{refusal, IsUnrefusedSource};
+ghost use Rattle.acceptance.specs.Printed.{printed_refusal, name_twice, name_unknown, wrong_dimensions, wrong_kind};
+ghost use Rattle.acceptance.specs.Sources.{refusal};
 ghost use Rattle.acceptance.specs.WorkedSources as source;
 ghost use Rattle.acceptance.specs.WorkedSources.{added_to, at, bare_name, bounded_by, by_zero, cast_in_cast, cast_name, empty_extent, gather, gathered, grid, i, jacobi, large, line, many_reads, mix, n, nest_of, no_line, own_scalar, product_of, product_subscript, ranged, scalar_beside, scattered, set, seven_loops, shift_of, sum_of_reads, tested, triangle, unknown, valued, wide_sum, writes_to};
 ghost use Rattle.acceptance.specs.Worked.{places, shift, two_sizes, unknown_total, no_use_total, array_total, word_bound};
 
 /// No condition refuses a small printed unit. Where a name in it is declared twice, isn't declared, has another number of extents or is of another kind, a condition holds at the head, which is item 0, or at the items that use the name.
 pub fn worked_refusals()
-    ensures accepted { IsUnrefusedPrinted shift }
+    ensures accepted { printed_refusal shift ≡ None }
     ensures declared_twice { places two_sizes (name_twice two_sizes) ≡ 0 ∷ [] }
     ensures used_undeclared { places unknown_total (name_unknown unknown_total) ≡ 9 ∷ [] }
     ensures compared_undeclared { places no_use_total (name_unknown no_use_total) ≡ 9 ∷ 16 ∷ [] }
@@ -25,11 +25,11 @@ pub fn worked_refusals()
 
 /// What refuses each of the worked sources, by its number and its item.
 pub fn worked_sources()
-    ensures accepted { IsUnrefusedSource source.shift }
-    ensures accepted_product { IsUnrefusedSource (product_of (codes "n")) }
-    ensures accepted_mix { IsUnrefusedSource mix }
-    ensures accepted_gather { IsUnrefusedSource gather }
-    ensures accepted_cast { IsUnrefusedSource cast_name }
+    ensures accepted { refusal source.shift ≡ None }
+    ensures accepted_product { refusal (product_of (codes "n")) ≡ None }
+    ensures accepted_mix { refusal mix ≡ None }
+    ensures accepted_gather { refusal gather ≡ None }
+    ensures accepted_cast { refusal cast_name ≡ None }
     ensures subscript { refusal product_subscript ≡ Some (9, 2) }
     ensures scattered { refusal scattered ≡ Some (17, 2) }
     ensures deep { refusal seven_loops ≡ Some (8, 7) }
@@ -52,8 +52,8 @@ pub fn worked_sources()
 
 /// More sources, on either side of each limit.
 pub fn worked_limits()
-    ensures triangle { IsUnrefusedSource triangle }
-    ensures jacobi { IsUnrefusedSource jacobi }
+    ensures triangle { refusal triangle ≡ None }
+    ensures jacobi { refusal jacobi ≡ None }
     ensures reserved_and_unknown { refusal (shift_of [] ((codes "bal_x", 0) ∷ []) (set (at (codes "A") i) (var (codes "q")))) ≡ Some (5, 2) }
     ensures six_loops { refusal (nest_of 6) ≡ None }
     ensures eight_ints { refusal (bounded_by 7 n) ≡ None }

@@ -12,7 +12,7 @@ use Rattle.instrumentation.specs.Passes.{renamed, renamed_all, renamed_tests, Ta
 use Rattle.instrumentation.specs.Prologue.{cell_loops, add_cell, cell_text, array_text, prologue_text}
 use Rattle.instrumentation.specs.Guarded.{arrays_with_extents, array_names, guarded}
 use Rattle.acceptance.specs.Head.{list_of}
-use Rattle.accepted_laws.specs.Heights.{tests_height, exprs_height, all_exprs_height, extents_height, IsLow}
+use Rattle.acceptance.specs.Heights.{tests_height, exprs_height, all_exprs_height, extents_height, IsLow}
 use Rattle.accepted_laws.specs.Pieces.{with_pieces}
 use Rattle.accepted_laws.specs.Regular.{AreRanked}
 

@@ -15,7 +15,7 @@ use Rattle.acceptance.specs.Affine.{is_affine, lies_in}
 use Rattle.acceptance.specs.Head.{uses_known, is_range}
 use Rattle.acceptance.specs.Printed.{dimensions, fits_dimensions, literals_fit}
 use Rattle.acceptance_laws.proofs.Names.{same_word, apart_sym}
-use Rattle.accepted_laws.specs.Trees.{IsNameIn, IsTree, IsSourceTree}
+use Rattle.acceptance.specs.Trees.{IsNameIn, IsTree, IsSourceTree}
 use Rattle.accepted_laws.specs.Regular.{is_data, IsRegularItem, IsRegular}
 
 -- ---- offsets from a signed name

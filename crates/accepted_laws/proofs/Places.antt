@@ -18,7 +18,8 @@ use Rattle.acceptance_laws.proofs.Statements.{AreTests}
 use Rattle.acceptance_laws.proofs.Fine.{inside}
 use Rattle.acceptance_laws.proofs.TextWords.{scalar_append}
 use Rattle.acceptance_laws.proofs.Units.{head_of}
-use Rattle.accepted_laws.specs.Regular.{all_affine, are_subscripts, has_signed, is_data, tests_affine, is_target, is_assigning, AreRanked}
+use Rattle.accepted_laws.specs.Regular.{all_affine, are_subscripts, has_signed, is_data, tests_affine, is_target, AreRanked}
+use Rattle.acceptance.specs.Trees.{is_assigning}
 use Rattle.accepted_laws.proofs.Dimensions.{param_array, array_has, has_array}
 
 pub affine_un_signed : (op : UnOp) → is_affine_un op ≡ true → is_signed_un op ≡ true

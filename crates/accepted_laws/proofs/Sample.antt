@@ -4,7 +4,7 @@ use Rattle.std.proofs.lemmas.Int.{ints}
 use Rattle.c_tree.specs.Plain.{Word}
 use Rattle.instrumentation.specs.Guarded.{guarded}
 use Rattle.acceptance.specs.Printed.{IsAcceptedPrinted}
-use Rattle.accepted_laws.specs.Trees.{IsNameIn, IsSourceTree, IsPrintedTree}
+use Rattle.acceptance.specs.Trees.{IsNameIn, IsSourceTree, IsPrintedTree}
 use Rattle.accepted_laws.specs.Refusals.{IsRefusedNowhere}
 use Rattle.accepted_laws.specs.Regular.{IsRegular}
 use Rattle.accepted_laws.specs.Sample.{source}

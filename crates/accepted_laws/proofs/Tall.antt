@@ -2,7 +2,7 @@
 use Rattle.std.proofs.Common.{◌≡◌, refl, arith}
 use Rattle.c_tree.specs.Grammar.Statements.{stmts_height}
 use Rattle.instrumentation.specs.Guarded.{guarded}
-use Rattle.accepted_laws.specs.Heights.{all_exprs_height, IsLow}
+use Rattle.acceptance.specs.Heights.{all_exprs_height, IsLow}
 use Rattle.accepted_laws.specs.Refusals.{IsRefusedNowhere}
 use Rattle.accepted_laws.specs.Tall.{tall}
 

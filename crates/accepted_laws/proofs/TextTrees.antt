@@ -15,9 +15,10 @@ use Rattle.instrumentation.specs.Passes.{renamed_name, renamed, renamed_all, ren
 use Rattle.instrumentation.specs.Prologue.{cell_loops, add_cell, cell_text, array_text, prologue_text}
 use Rattle.instrumentation.specs.Guarded.{arrays_with_extents, array_names, register_words, own_words, total_names, guarded}
 use Rattle.acceptance.specs.Head.{list_of}
-use Rattle.accepted_laws.specs.Trees.{IsNameIn, IsTree, AreSubscripts, AreTrees, AreSides, IsCondition, IsInner, AreInner, IsTop, AreTop, AreLines, AreParams, AreWords, AreNames, IsSourceTree, IsPrintedTree}
-use Rattle.accepted_laws.specs.Heights.{IsLow}
-use Rattle.accepted_laws.specs.Regular.{AreRanked, is_assigning, IsRegular}
+use Rattle.acceptance.specs.Trees.{IsNameIn, IsTree, AreSubscripts, AreTrees, AreSides, IsCondition, IsInner, AreInner, IsTop, AreTop, AreLines, AreParams, AreWords, AreNames, IsSourceTree, IsPrintedTree}
+use Rattle.acceptance.specs.Heights.{IsLow}
+use Rattle.accepted_laws.specs.Regular.{AreRanked, IsRegular}
+use Rattle.acceptance.specs.Trees.{is_assigning}
 use Rattle.accepted_laws.proofs.WordNames.{loosen, register_name, definition_name, use_name, coordinate_name, variable_name, result_name, count_name, active_name, counter_name, text_name}
 use Rattle.accepted_laws.proofs.Sources.{all_few_loads}
 use Rattle.accepted_laws.proofs.Heights.{Low, cells_low, pieces_low, text_low}

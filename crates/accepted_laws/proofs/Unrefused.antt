@@ -13,7 +13,7 @@ use Rattle.acceptance.specs.Items.{Loop, Item, items, items_all, tables_after, C
 use Rattle.acceptance.specs.Affine.{is_affine}
 use Rattle.acceptance.specs.Head.{list_of}
 use Rattle.acceptance.specs.Printed.{dimensions, fits_dimensions, exprs_fit, names_fit}
-use Rattle.accepted_laws.specs.Trees.{IsTree, AreSubscripts, IsInner, AreInner, AreParams, IsSourceTree}
+use Rattle.acceptance.specs.Trees.{IsTree, AreSubscripts, IsInner, AreInner, AreParams, IsSourceTree}
 use Rattle.accepted_laws.specs.Refusals.{item_is_much, has_bare, at_subscripts, affine_parts, sides_of, parts_in, has_bare_in, is_fixed, sets_fixed, source_conditions, IsRefusedNowhere, none_is_cell, has_no_index, reads_plainly, all_read_plainly}
 use Rattle.accepted_laws.specs.Regular.{all_affine, are_subscripts, has_signed, is_data, tests_affine, is_target, item_is_affine, IsFew, IsRegularItem, StmtRegular, AllRegular, AreFreeParams, AreFreeWords, AreRanked, IsRegular}
 

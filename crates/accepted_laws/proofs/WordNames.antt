@@ -8,7 +8,7 @@ use Rattle.std.proofs.lemmas.Fmt.{decimal_is_IsNumeral, length-decimal-le}
 use Rattle.c_tree.specs.Plain.{Word}
 use Rattle.c_tree.specs.Reserved.{is_letter, is_digit, is_word_byte, is_word}
 use Rattle.instrumentation.specs.Names.{register, result, count, definition_total, use_total, coordinate, pass_variable, active, counter, function_name}
-use Rattle.accepted_laws.specs.Trees.{IsNameIn}
+use Rattle.acceptance.specs.Trees.{IsNameIn}
 
 pub loosen : (x : Word) → IsNameIn false x → IsNameIn true x
 loosen x h = (let s : length x ≤ 255 = h.short in record { word = h.word; free = h.free; short = omega arith })

@@ -4,8 +4,8 @@
 ghost use Rattle.acceptance.specs.Printed.{IsAcceptedPrinted, StoresNothingBefore};
 ghost use Rattle.acceptance.specs.Runnable.{IsRunnable};
 ghost use Rattle.accepted_laws.specs.Broken.{whole, reserved_scalar, size_again, unknown_value, two_subscripts, wide_shift, bare_variable, is_clear};
-ghost use Rattle.accepted_laws.specs.Trees.{IsSourceTree, IsPrintedTree};
-ghost use Rattle.accepted_laws.specs.Heights.{IsLow, all_exprs_height};
+ghost use Rattle.acceptance.specs.Trees.{IsSourceTree, IsPrintedTree};
+ghost use Rattle.acceptance.specs.Heights.{IsLow, all_exprs_height};
 ghost use Rattle.accepted_laws.specs.Refusals.{IsRefusedNowhere, all_read_plainly};
 ghost use Rattle.accepted_laws.specs.Regular.{IsRegular};
 ghost use Rattle.accepted_laws.specs.Sample.{source};

@@ -10,9 +10,9 @@ use Rattle.c_tree.specs.Grammar.Expressions.{height, heights}
 use Rattle.c_tree.specs.Grammar.Statements.{set_op}
 use Rattle.c_tree.specs.Grammar.Units.{checks_below, all_checks_below}
 use Rattle.acceptance.specs.Head.{list_of}
-use Rattle.accepted_laws.specs.Heights.{tests_height, exprs_height, all_exprs_height, extents_height}
-use Rattle.accepted_laws.specs.Regular.{is_assigning}
-use Rattle.accepted_laws.specs.Trees.{IsTree, AreSubscripts, AreTrees, AreSides, IsCondition, IsInner, AreInner, IsTop, AreTop, AreLines, AreParams}
+use Rattle.acceptance.specs.Heights.{tests_height, exprs_height, all_exprs_height, extents_height}
+use Rattle.acceptance.specs.Trees.{is_assigning}
+use Rattle.acceptance.specs.Trees.{IsTree, AreSubscripts, AreTrees, AreSides, IsCondition, IsInner, AreInner, IsTop, AreTop, AreLines, AreParams}
 use Rattle.layout_laws.specs.Spell.{set_mark}
 use Rattle.layout_laws.specs.Fine.{IsFine, AreFine, Low, LowTests, FineTests, FinePlace, FineStmt, FineStmts, FineTop, FineInt, FineRanges, count, AllLow, FineDims, LowParams}
 

@@ -11,7 +11,7 @@ use Rattle.c_tree.specs.declared.symbol.Symbol.{Symbol}
 use Rattle.c_tree.specs.Grammar.Symbols.{words}
 use Rattle.c_tree.specs.Grammar.Texts.{find_symbol}
 use Rattle.acceptance_laws.proofs.Names.{apart_sym}
-use Rattle.accepted_laws.specs.Trees.{IsNameIn, IsTree, AreSubscripts, AreTrees, AreSides, IsCondition, IsInner, AreInner, IsTop, AreTop, AreLines, AreParams, AreWords, AreNames}
+use Rattle.acceptance.specs.Trees.{IsNameIn, IsTree, AreSubscripts, AreTrees, AreSides, IsCondition, IsInner, AreInner, IsTop, AreTop, AreLines, AreParams, AreWords, AreNames}
 use Rattle.layout_laws.specs.Proper.{IsName, IsProper, AreProper, ProperTests, ProperPlace, ProperStmt, ProperStmts, ProperInt, ProperRanges, ProperParams, ProperWords, ProperWides}
 use Rattle.tree_texts.proofs.FineTrees.{assigns}
 

@@ -14,9 +14,9 @@ use Rattle.c_tree.specs.Grammar.Symbols.{words}
 use Rattle.c_tree.specs.Grammar.Texts.{find_symbol}
 use Rattle.c_tree.specs.Grammar.Units.{checks_below, all_checks_below}
 use Rattle.acceptance_laws.proofs.Names.{apart_sym}
-use Rattle.accepted_laws.specs.Heights.{tests_height, exprs_height, all_exprs_height, extents_height}
-use Rattle.accepted_laws.specs.Regular.{is_assigning}
-use Rattle.accepted_laws.specs.Trees.{IsNameIn, IsTree, AreSubscripts, AreTrees, AreSides, IsCondition, is_place, IsInner, AreInner, IsTop, AreTop, AreLines, AreParams, AreWords, AreNames}
+use Rattle.acceptance.specs.Heights.{tests_height, exprs_height, all_exprs_height, extents_height}
+use Rattle.acceptance.specs.Trees.{is_assigning}
+use Rattle.acceptance.specs.Trees.{IsNameIn, IsTree, AreSubscripts, AreTrees, AreSides, IsCondition, is_place, IsInner, AreInner, IsTop, AreTop, AreLines, AreParams, AreWords, AreNames}
 use Rattle.layout_laws.specs.Spell.{set_mark}
 use Rattle.layout_laws.specs.Fine.{IsFine, AreFine, Low, LowTests, FineTests, FinePlace, FineStmt, FineStmts, FineTable, FineTop, FineInt, FineRanges, count, AllLow, LowParams}
 use Rattle.layout_laws.specs.Proper.{IsName, IsProper, AreProper, ProperTests, ProperPlace, ProperStmt, ProperStmts, ProperRanges, ProperParams, ProperWords, ProperWides}

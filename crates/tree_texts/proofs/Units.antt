@@ -4,8 +4,8 @@ use Rattle.c_tree.specs.Names.{arrays_in}
 use Rattle.c_tree.specs.Plain.{PlainStmt, begin, verdict, more_stmts, PlainParam, PlainUnit}
 use Rattle.c_tree.specs.Trees.{stmts_of}
 use Rattle.c_tree.specs.Grammar.Statements.{chain, one, stmts_height}
-use Rattle.accepted_laws.specs.Heights.{all_exprs_height, extents_height}
-use Rattle.accepted_laws.specs.Trees.{AreParams, IsSourceTree, IsPrintedTree}
+use Rattle.acceptance.specs.Heights.{all_exprs_height, extents_height}
+use Rattle.acceptance.specs.Trees.{AreParams, IsSourceTree, IsPrintedTree}
 use Rattle.layout_laws.specs.Fine as fine
 use Rattle.layout_laws.specs.Fine.{FineParams, FineUnit}
 use Rattle.layout_laws.specs.Proper.{ProperStmts, ProperUnit}

@@ -3,9 +3,9 @@ use Rattle.std.proofs.Common.{◌≡◌, ◌≢◌, ◌⊎◌, ℕ, ◌≤◌, B
 use Rattle.c_tree.specs.Plain.{PlainStmt, begin, verdict, PlainStmts, no_stmts, more_stmts, PlainParam, PlainUnit}
 use Rattle.c_tree.specs.Trees.{stmts_of}
 use Rattle.c_tree.specs.Grammar.Statements.{chain, one, stmts_height}
-use Rattle.accepted_laws.specs.Heights.{all_exprs_height}
+use Rattle.acceptance.specs.Heights.{all_exprs_height}
 use Rattle.accepted_laws.specs.Regular.{AllRegular, IsRegular}
-use Rattle.accepted_laws.specs.Trees.{IsSourceTree, IsPrintedTree}
+use Rattle.acceptance.specs.Trees.{IsSourceTree, IsPrintedTree}
 use Rattle.layout_laws.specs.Fine as fine
 use Rattle.layout_laws.specs.Fine.{LowParams, FineParams, FineUnit}
 use Rattle.layout_laws.specs.Proper.{ProperStmts, ProperUnit}

@@ -3,7 +3,7 @@
 
 ghost use Rattle.accepted_laws.specs.Regular.{IsRegular};
 ghost use Rattle.accepted_laws.specs.Sample.{source};
-ghost use Rattle.accepted_laws.specs.Trees.{IsSourceTree, IsPrintedTree};
+ghost use Rattle.acceptance.specs.Trees.{IsSourceTree, IsPrintedTree};
 ghost use Rattle.c_tree.specs.Grammar.Texts.{IsText};
 ghost use Rattle.c_tree.specs.Grammar.Tokens.{Text};
 ghost use Rattle.c_tree.specs.Layout.{layout};

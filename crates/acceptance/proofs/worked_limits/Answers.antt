@@ -3,10 +3,10 @@ use Rattle.std.proofs.Common.{refl}
 use Rattle.acceptance.proofs.worked_limits.Goals as goal
 
 pub returns-clause-triangle : goal.returns-clause-triangle
-returns-clause-triangle c = record { version = refl; refused_nowhere = refl }
+returns-clause-triangle c = refl
 
 pub returns-clause-jacobi : goal.returns-clause-jacobi
-returns-clause-jacobi c = record { version = refl; refused_nowhere = refl }
+returns-clause-jacobi c = refl
 
 pub returns-clause-reserved_and_unknown : goal.returns-clause-reserved_and_unknown
 returns-clause-reserved_and_unknown c = refl

@@ -5,7 +5,7 @@ use Rattle.acceptance.proofs.worked_refusals.Goals as goal
 
 pub returns-clause-accepted : goal.returns-clause-accepted
 unfolding digits
-returns-clause-accepted c = record { version = refl; refused_nowhere = refl }
+returns-clause-accepted c = refl
 
 pub returns-clause-used_undeclared : goal.returns-clause-used_undeclared
 unfolding digits

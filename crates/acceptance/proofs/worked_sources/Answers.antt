@@ -3,19 +3,19 @@ use Rattle.std.proofs.Common.{refl}
 use Rattle.acceptance.proofs.worked_sources.Goals as goal
 
 pub returns-clause-accepted : goal.returns-clause-accepted
-returns-clause-accepted c = record { version = refl; refused_nowhere = refl }
+returns-clause-accepted c = refl
 
 pub returns-clause-accepted_product : goal.returns-clause-accepted_product
-returns-clause-accepted_product c = record { version = refl; refused_nowhere = refl }
+returns-clause-accepted_product c = refl
 
 pub returns-clause-accepted_mix : goal.returns-clause-accepted_mix
-returns-clause-accepted_mix c = record { version = refl; refused_nowhere = refl }
+returns-clause-accepted_mix c = refl
 
 pub returns-clause-accepted_gather : goal.returns-clause-accepted_gather
-returns-clause-accepted_gather c = record { version = refl; refused_nowhere = refl }
+returns-clause-accepted_gather c = refl
 
 pub returns-clause-accepted_cast : goal.returns-clause-accepted_cast
-returns-clause-accepted_cast c = record { version = refl; refused_nowhere = refl }
+returns-clause-accepted_cast c = refl
 
 pub returns-clause-subscript : goal.returns-clause-subscript
 returns-clause-subscript c = refl

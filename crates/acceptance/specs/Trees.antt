@@ -1,5 +1,5 @@
 -- The trees of the grammar: what stands in the tree of every text, of a source and of a printed one.
-use Rattle.std.specs.Prelude.{◌≡◌, ◌≢◌, ℕ, ◌^◌, ◌<◌, ◌≤◌, ◌≤ℤ◌, ◌<ℤ◌, ℤ, pos, neg_ℤ, Bool, true, false, cond, List, [], ◌∷◌, ◌++◌, length, Some, None, bytes_eq}
+use Rattle.std.specs.Prelude.{◌≡◌, ◌≢◌, ℕ, ◌^◌, ◌<◌, ◌≤◌, ◌≤ℤ◌, ◌<ℤ◌, ℤ, pos, neg_ℤ, Bool, true, false, cond, List, [], ◌∷◌, ◌++◌, length, Option, Some, None, bytes_eq}
 use Rattle.std.specs.List.{list_any}
 use Rattle.c_tree.specs.Plain.{Word, PlainExpr, lit, var, cell, un, bin, cast, test, umin, umax, least, greatest, widen, big, PlainExprs, no_exprs, more_exprs, PlainTest, PlainStmt, loop, choice, assign, table, begin, check, verdict, PlainStmts, no_stmts, more_stmts, PlainParam, int_param, array_param, PlainUnit}
 use Rattle.c_tree.specs.Names.{arrays_in}
@@ -7,9 +7,10 @@ use Rattle.c_tree.specs.Reserved.{is_word, grammar_words}
 use Rattle.c_tree.specs.Grammar.Expressions.{limit}
 use Rattle.c_tree.specs.Grammar.Statements.{bounds, stmt_limit}
 use Rattle.c_tree.specs.Trees.{stmts_of}
+use Rattle.c_tree.specs.declared.expr.BinOp.{BinOp}
+use Rattle.c_tree.specs.declared.expr.BinOp.TheVariants.{Add, Sub, Mul, And, Xor, Or}
 use Rattle.acceptance.specs.Head.{list_of}
-use Rattle.accepted_laws.specs.Heights.{IsLow}
-use Rattle.accepted_laws.specs.Regular.{is_assigning}
+use Rattle.acceptance.specs.Heights.{IsLow}
 
 -- The test says whether the text is a printed one.
 abbrev pub word_limit : Bool → ℕ
@@ -59,10 +60,22 @@ IsCondition p (t ∷ ts) = (IsTree p t.1 × IsTree p t.2) × AreSides p ts
 
 -- ---- statements
 
+-- a name or a cell
 abbrev pub is_place : PlainExpr → Bool
 is_place (var x) = true
 is_place (cell x at) = true
 is_place _ = false
+
+-- `=`, `+=`, `-=`, `*=`, `&=`, `^=` and `|=`
+abbrev pub is_assigning : Option BinOp → Bool
+is_assigning None = true
+is_assigning (Some Add) = true
+is_assigning (Some Sub) = true
+is_assigning (Some Mul) = true
+is_assigning (Some And) = true
+is_assigning (Some Xor) = true
+is_assigning (Some Or) = true
+is_assigning (Some _) = false
 
 -- What stands in loops and choices, and in a source everywhere. The number says how many arrays there are for checks.
 abbrev mutual
