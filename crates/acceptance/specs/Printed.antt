@@ -54,14 +54,15 @@ at_head b = record { head = b; inside = λ i. false }
 
 -- ---- dimensions
 
+-- how many extents the first array of a name has
+abbrev pub dimensions_of : List PlainParam → Word → ℕ
+dimensions_of [] x = 0
+dimensions_of (int_param y ∷ ps) x = dimensions_of ps x
+dimensions_of (array_param y constant extents ∷ ps) x = if bytes_eq y x then length (list_of extents) else dimensions_of ps x
+
 -- the number of subscripts that a name takes: its extents, one for a table, and none for any other
 abbrev pub dimensions : Scope → Word → ℕ
-dimensions sc x = if is_among sc.tables x then 1 else dimensions_in sc.params x
-  where
-    dimensions_in : List PlainParam → Word → ℕ
-    dimensions_in [] x = 0
-    dimensions_in (int_param y ∷ ps) x = dimensions_in ps x
-    dimensions_in (array_param y constant extents ∷ ps) x = if bytes_eq y x then length (list_of extents) else dimensions_in ps x
+dimensions sc x = if is_among sc.tables x then 1 else dimensions_of sc.params x
 
 abbrev mutual
   pub fits_dimensions : (Word → ℕ) → PlainExpr → Bool
