@@ -1,14 +1,14 @@
 -- Items at which none of the conditions holds, texts that consist of such items, and what that says of a whole unit.
-use Rattle.std.proofs.Common.{◌≡◌, Bool, true, false, not, List, [], ◌∷◌, ◌++◌, refl, sym, ap, ◌∙◌, subst, Some}
+use Rattle.std.proofs.Common.{◌≡◌, ℕ, suc, Bool, true, false, not, List, [], ◌∷◌, ◌++◌, map, refl, sym, ap, ◌∙◌, subst, None}
 use Rattle.std.specs.List.{list_all}
-use Rattle.std.proofs.lemmas.Bool.{and_from}
+use Rattle.std.proofs.lemmas.Bool.{and_from, and_parts, not-true}
 use Rattle.std.proofs.lemmas.List.Folds.{list_all-append}
 use Rattle.c_tree.specs.Plain.{Word, PlainStmt, loop, choice, assign, table, begin, check, verdict, PlainStmts, no_stmts, more_stmts, PlainUnit}
 use Rattle.c_tree.specs.Trees.{stmts_of}
-use Rattle.acceptance.specs.Items.{Loop, Item, items, items_all, tables_after, Condition, holds_nowhere, Scope, scope_of}
+use Rattle.acceptance.specs.Items.{Loop, Item, items, items_all, tables_after, Condition, holds_nowhere, first_where, least_item, lowest, Scope, scope_of}
 use Rattle.acceptance.specs.Runnable.{makes_no_table, all_make_no_table}
 use Rattle.acceptance.specs.Head.{extents_known, head_names_twice, bad_range, extent_not_affine, extent_terms_too_large, extent_too_wide, extent_not_positive}
-use Rattle.acceptance.specs.Printed.{item_name_twice, item_uses_known, fits_dimensions, dimensions, exprs_fit, names_fit, literals_fit, has_kinds, extents_signed, name_twice, name_unknown, at_head, wrong_dimensions, bad_literal, wrong_kind, IsAcceptedPrinted}
+use Rattle.acceptance.specs.Printed.{item_name_twice, item_uses_known, fits_dimensions, dimensions, exprs_fit, names_fit, literals_fit, has_kinds, extents_signed, name_twice, name_unknown, at_head, wrong_dimensions, bad_literal, wrong_kind, printed_conditions, printed_refusal}
 
 -- no condition holds at an item, in the scope around it
 pub record IsFine (f : Word) (sc : Scope) (s : PlainStmt) : Type 0 where
@@ -113,21 +113,37 @@ not_at_head u b h = nowhere u (at_head b) h (all_true (items_all u.body [] []))
 not_not : (b : Bool) → b ≡ true → not (not b) ≡ true
 not_not b h = ap (λ c. not (not c)) h
 
-pub accepted_by : (u : PlainUnit) → u.version ≡ Some 1 → HeadFine u → AllFine u.name (scope_of u [] []) u.body [] → IsAcceptedPrinted u
-accepted_by u version head body =
+-- ---- refused nowhere
+
+first_none : (p : Item → Bool) (k : ℕ) (is : List Item) → list_all (λ i. not (p i)) is ≡ true → first_where p k is ≡ None
+first_none p k [] h = refl
+first_none p k (i ∷ is) h =
+    let g : (not (p i) ≡ true) × (list_all (λ j. not (p j)) is ≡ true) = and_parts _ _ h in
+    rw (not-true (p i) g.0) (first_none p (suc k) is g.1)
+
+least_none : (u : PlainUnit) (c : Condition) → holds_nowhere u c ≡ true → least_item u c ≡ None
+least_none u c h =
+    let g : (not c.head ≡ true) × (list_all (λ i. not (c.inside i)) (items_all u.body [] []) ≡ true) = and_parts _ _ h in
+    rw (not-true c.head g.0) (first_none c.inside 1 (items_all u.body [] []) g.1)
+
+lowest_none : (u : PlainUnit) (cs : List (ℕ × Condition)) → list_all (λ (c : ℕ × Condition). holds_nowhere u c.1) cs ≡ true → lowest (map (λ c. (c.0, least_item u c.1)) cs) ≡ None
+lowest_none u [] h = refl
+lowest_none u (c ∷ cs) h =
+    let g : (holds_nowhere u c.1 ≡ true) × (list_all (λ (d : ℕ × Condition). holds_nowhere u d.1) cs ≡ true) = and_parts _ _ h in
+    rw (least_none u c.1 g.0) (lowest_none u cs g.1)
+
+pub unrefused_by : (u : PlainUnit) → HeadFine u → AllFine u.name (scope_of u [] []) u.body [] → printed_refusal u ≡ None
+unrefused_by u head body =
     let sc : Scope = scope_of u [] [] in
     let f : Word = u.name in
-    record {
-      version = version;
-      refused_nowhere =
-          and_from _ _ (nowhere u (name_twice u) head.once (all_items _ f sc (λ s ls h. ap not h.once) u.body [] body))
-          (and_from _ _ (nowhere u (name_unknown u) (ap not head.known) (all_items _ f sc (λ s ls h. not_not _ h.known) u.body [] body))
-          (and_from _ _ (nowhere u (bad_range u) head.ranges (all_true (items_all u.body [] [])))
-          (and_from _ _ (not_at_head u (extent_not_affine u) head.affine)
-          (and_from _ _ (not_at_head u (extent_terms_too_large u) head.small)
-          (and_from _ _ (not_at_head u (extent_too_wide u) head.narrow)
-          (and_from _ _ (not_at_head u (extent_not_positive u) head.positive)
-          (and_from _ _ (nowhere u (wrong_dimensions u) refl (all_items _ f sc (λ s ls h. not_not _ (and_from _ _ h.fits h.flat)) u.body [] body))
-          (and_from _ _ (nowhere u (bad_literal u) refl (all_items _ f sc (λ s ls h. not_not _ h.literals) u.body [] body))
-          (and_from _ _ (nowhere u (wrong_kind u) (ap not head.signed) (all_items _ f sc (λ s ls h. not_not _ h.kinds) u.body [] body)) refl)))))))));
-    }
+    lowest_none u (printed_conditions u)
+    (and_from _ _ (nowhere u (name_twice u) head.once (all_items _ f sc (λ s ls h. ap not h.once) u.body [] body))
+    (and_from _ _ (nowhere u (name_unknown u) (ap not head.known) (all_items _ f sc (λ s ls h. not_not _ h.known) u.body [] body))
+    (and_from _ _ (nowhere u (bad_range u) head.ranges (all_true (items_all u.body [] [])))
+    (and_from _ _ (not_at_head u (extent_not_affine u) head.affine)
+    (and_from _ _ (not_at_head u (extent_terms_too_large u) head.small)
+    (and_from _ _ (not_at_head u (extent_too_wide u) head.narrow)
+    (and_from _ _ (not_at_head u (extent_not_positive u) head.positive)
+    (and_from _ _ (nowhere u (wrong_dimensions u) refl (all_items _ f sc (λ s ls h. not_not _ (and_from _ _ h.fits h.flat)) u.body [] body))
+    (and_from _ _ (nowhere u (bad_literal u) refl (all_items _ f sc (λ s ls h. not_not _ h.literals) u.body [] body))
+    (and_from _ _ (nowhere u (wrong_kind u) (ap not head.signed) (all_items _ f sc (λ s ls h. not_not _ h.kinds) u.body [] body)) refl))))))))))

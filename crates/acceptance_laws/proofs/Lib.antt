@@ -5,7 +5,6 @@ pub mod Fine
 pub mod Loads
 pub mod Names
 pub mod Once
-pub mod OneLoop
 pub mod Passes
 pub mod Prologues
 pub mod Renamed

@@ -84,7 +84,7 @@ pub regular : IsRegular source
 regular = unrefused_regular source tree unrefused refl
 
 pub sample_accepted : IsAcceptedPrinted (guarded source)
-sample_accepted = regular_accepted source regular
+sample_accepted = regular_accepted source regular tree
 
 pub sample_printed : IsPrintedTree (guarded source)
 sample_printed = regular_tree source regular tree

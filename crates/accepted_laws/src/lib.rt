@@ -16,13 +16,13 @@ ghost use Rattle.c_tree.specs.Plain.{PlainUnit};
 ghost use Rattle.instrumentation.specs.Guarded.{guarded};
 ghost use Rattle.std.specs.Prelude.{◌≡◌, true, false};
 
-/// The instrumented unit of a regular source is accepted as a printed unit, stores into no array before the source's statements begin, and is one that the interpreter runs.
+/// The instrumented unit of a regular source that is a tree of the grammar is accepted as a printed unit, and is one that the interpreter runs. It stores into no array before the source's statements begin.
 /// Where the source's statements and expressions are at most 64 high, its statements are at most 129 high, and its expressions at most 65.
-/// Where the source is a tree of the grammar of sources, it is one of the grammar of printed texts: it has one `begin`, and the verdict last.
+/// It is a tree of the grammar of printed texts: it has one `begin`, and the verdict last.
 pub fn regular_is_accepted()
-    ensures accepted { (u : PlainUnit) → IsRegular u → IsAcceptedPrinted (guarded u) }
+    ensures accepted { (u : PlainUnit) → IsRegular u → IsSourceTree u → IsAcceptedPrinted (guarded u) }
     ensures stores { (u : PlainUnit) → IsRegular u → StoresNothingBefore (guarded u) }
-    ensures runs { (u : PlainUnit) → IsRegular u → IsRunnable (guarded u) }
+    ensures runs { (u : PlainUnit) → IsRegular u → IsSourceTree u → IsRunnable (guarded u) }
     ensures low { (u : PlainUnit) → IsRegular u → IsLow 64 64 u → IsLow 129 65 (guarded u) }
     ensures printed { (u : PlainUnit) → IsRegular u → IsSourceTree u → IsPrintedTree (guarded u) }
 {}
@@ -41,11 +41,13 @@ pub fn a_nest_is_accepted()
     ensures printed { IsPrintedTree (guarded source) }
 {}
 
-/// A source of the one-loop form is of the grammar, and regular; so its instrumented unit is accepted.
+/// A source of the one-loop form is of the grammar, and regular; so its instrumented unit is accepted, stores into no array before `begin`, and is one that the interpreter runs.
 pub fn one_loop_is_regular()
     ensures regular { (u : PlainUnit) → IsOneLoop u → IsRegular u }
     ensures tree { (u : PlainUnit) → IsOneLoop u → IsSourceTree u }
     ensures accepted { (u : PlainUnit) → IsOneLoop u → IsAcceptedPrinted (guarded u) }
+    ensures stores { (u : PlainUnit) → IsOneLoop u → StoresNothingBefore (guarded u) }
+    ensures runs { (u : PlainUnit) → IsOneLoop u → IsRunnable (guarded u) }
     ensures printed { (u : PlainUnit) → IsOneLoop u → IsPrintedTree (guarded u) }
 {}
 

@@ -8,7 +8,7 @@ ghost use Rattle.command_line.specs.Orders.{order_of};
 ghost use Rattle.balance_cli.specs.Table.{Cause, AsksInOrder, IsComplete, EndsAsDefined};
 
 use crate::stages::prepared;
-use acceptance_laws::one_loop_is_accepted;
+use accepted_laws::one_loop_is_regular;
 use c_lexer::one_reading;
 use c_parser::one_unit;
 use command_line::{
@@ -98,7 +98,7 @@ pub fn balance<F: Shelf, O: Sink, E: Sink>(
     one_answer();
     some_answer();
     one_loop_guards();
-    one_loop_is_accepted();
+    one_loop_is_regular();
     instrumented_units_have_texts();
     answered(alloc, words, shelf, out, err)
 }

@@ -140,6 +140,6 @@ pub fn instrument_one(alloc: Global, u: &Unit) -> Result<Unit, OutOfMemory>
     ensures turns { OnOk result (PassesTurnAsSource (unit u.now)) }
 {
     guard_laws::one_loop_guards();
-    acceptance_laws::one_loop_is_accepted();
+    accepted_laws::one_loop_is_regular();
     instrument(alloc, u)
 }

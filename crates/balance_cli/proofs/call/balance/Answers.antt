@@ -26,8 +26,8 @@ returns-clause-complete g c = complete (record {
   one_answer = c.one_answer.ensures;
   some_answer = c.some_answer.ensures;
   guards = c.one_loop_guards.ensures;
-  accepted = c.one_loop_is_accepted.ensures.accepted;
-  stores = c.one_loop_is_accepted.ensures.stores;
+  accepted = c.one_loop_is_regular.ensures.accepted;
+  stores = c.one_loop_is_regular.ensures.stores;
   printed = c.instrumented_units_have_texts.ensures.one_loop;
 }) _ _ _ c.answered.ensures
 
@@ -43,7 +43,7 @@ returns-clause-determined g c = determined_end (record {
   one_answer = c.one_answer.ensures;
   some_answer = c.some_answer.ensures;
   guards = c.one_loop_guards.ensures;
-  accepted = c.one_loop_is_accepted.ensures.accepted;
-  stores = c.one_loop_is_accepted.ensures.stores;
+  accepted = c.one_loop_is_regular.ensures.accepted;
+  stores = c.one_loop_is_regular.ensures.stores;
   printed = c.instrumented_units_have_texts.ensures.one_loop;
 }) _ _ _ c.answered.ensures

@@ -11,13 +11,13 @@ pub instrument-requires : goal.instrument-requires
 instrument-requires c = one_loop_small (unit c.args.u.now) c.requires
 
 pub returns-clause-accepted : goal.returns-clause-accepted
-returns-clause-accepted c = if_made _ (guarded (unit c.args.u.now)) IsAcceptedPrinted c.instrument.ensures (c.one_loop_is_accepted.ensures.accepted _ c.requires)
+returns-clause-accepted c = if_made _ (guarded (unit c.args.u.now)) IsAcceptedPrinted c.instrument.ensures (c.one_loop_is_regular.ensures.accepted _ c.requires)
 
 pub returns-clause-stores : goal.returns-clause-stores
-returns-clause-stores c = if_made _ (guarded (unit c.args.u.now)) StoresNothingBefore c.instrument.ensures (c.one_loop_is_accepted.ensures.stores _ c.requires)
+returns-clause-stores c = if_made _ (guarded (unit c.args.u.now)) StoresNothingBefore c.instrument.ensures (c.one_loop_is_regular.ensures.stores _ c.requires)
 
 pub returns-clause-runs : goal.returns-clause-runs
-returns-clause-runs c = if_made _ (guarded (unit c.args.u.now)) IsRunnable c.instrument.ensures (c.one_loop_is_accepted.ensures.runs _ c.requires)
+returns-clause-runs c = if_made _ (guarded (unit c.args.u.now)) IsRunnable c.instrument.ensures (c.one_loop_is_regular.ensures.runs _ c.requires)
 
 pub returns-clause-guards : goal.returns-clause-guards
 returns-clause-guards c = if_made _ (guarded (unit c.args.u.now)) (Guards (unit c.args.u.now)) c.instrument.ensures (c.one_loop_guards.ensures _ c.requires).guards
