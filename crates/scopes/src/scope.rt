@@ -24,9 +24,9 @@ pub enum Around<'a> {
 
 /// What is in scope at an item.
 #[derive(Clone, Copy)]
-pub struct Scope<'a> {
-    pub declared: &'a Declared<'a>,
-    pub tables: &'a NameSet<'a>,
+pub struct Scope<'a, 'n> {
+    pub declared: &'a Declared<'n>,
+    pub tables: &'a NameSet<'n>,
     pub around: &'a Around<'a>,
 }
 
@@ -61,7 +61,7 @@ fn interval_of(declared: &Declared<'_>, around: &Around<'_>, name: &Name) -> Int
     }
 }
 
-impl<'a> Scope<'a> {
+impl<'a, 'n> Scope<'a, 'n> {
     /// Whether a loop around the item has this variable.
     pub fn is_loop(&self, name: &Name) -> bool
         ensures { result ≡ items.is_loop (scope_in self.now).loops name.now.bytes }

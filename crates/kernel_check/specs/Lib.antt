@@ -1,0 +1,3 @@
+pub mod Conditions
+pub mod Items
+pub mod Scans

@@ -1,0 +1,6 @@
+//! Which units are accepted, and what is known of one that is.
+#![tactic(auto)]
+
+mod conditions;
+mod top;
+mod walk;
