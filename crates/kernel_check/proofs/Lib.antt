@@ -1,3 +1,4 @@
+pub mod Counts
 pub mod Flat
 pub mod Scans
 pub mod Walks

@@ -1,5 +1,5 @@
 -- The items below a statement, in the tables before it.
-use Rattle.std.specs.Prelude.{Bool, true, ◌&&◌, List, [], ◌∷◌, ◌++◌}
+use Rattle.std.specs.Prelude.{ℕ, suc, ◌+◌, Bool, true, ◌&&◌, List, [], ◌∷◌, ◌++◌}
 use Rattle.c_tree.specs.Plain.{Word, PlainStmt, loop, choice, assign, table, begin, check, verdict, PlainStmts, no_stmts, more_stmts}
 use Rattle.acceptance.specs.Items.{Item, Loop, one_item}
 use Rattle.acceptance.specs.Runnable.{makes_no_table}
@@ -34,3 +34,18 @@ is_flat s = makes_no_table s
 abbrev pub are_flat : PlainStmts → Bool
 are_flat no_stmts = true
 are_flat (more_stmts s ss) = is_flat s && are_flat ss
+
+-- how many items there are
+abbrev mutual
+  pub items_in : PlainStmt → ℕ
+  items_in (loop x lo rel hi body) = suc (all_items_in body)
+  items_in (choice tests first other) = suc (all_items_in first + all_items_in other)
+  items_in (assign target op e) = 1
+  items_in (table x len) = 1
+  items_in begin = 0
+  items_in (check x extent a) = 1
+  items_in verdict = 1
+
+  pub all_items_in : PlainStmts → ℕ
+  all_items_in no_stmts = 0
+  all_items_in (more_stmts s ss) = items_in s + all_items_in ss

@@ -2,5 +2,6 @@
 #![tactic(auto)]
 
 mod conditions;
+mod count;
 mod top;
 mod walk;
