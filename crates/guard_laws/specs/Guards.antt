@@ -18,6 +18,7 @@ use Rattle.instrumentation_laws.specs.UnitLaws.{IsCounted, totals_over}
 use Rattle.instrumentation_laws.specs.RegularUnits.{number_for, wides_for}
 use Rattle.pass_laws.specs.Countable.{AllHaveNoCells}
 use Rattle.pass_laws.specs.Going.{GoesTo, Turned}
+use Rattle.pass_laws.specs.Laws.{IsReady}
 use Rattle.pass_laws.specs.Places.{IsPlace}
 
 -- ---- without a fault
@@ -92,5 +93,8 @@ pub record GuardsInDetail (source unit : PlainUnit) : Type 0 where
   pub turns : PassesTurnAsSource source
 
 -- Each unit of the one-loop form is guarded by its instrumented unit.
+abbrev pub ReadyAreGuarded : Type 0
+ReadyAreGuarded = (u : PlainUnit) → ((i : PlainInputs) → IsSound u i → IsReady u i) → GuardsInDetail u (guarded u)
+
 abbrev pub OneLoopIsGuarded : Type 0
 OneLoopIsGuarded = (u : PlainUnit) → IsOneLoop u → GuardsInDetail u (guarded u)
