@@ -93,8 +93,7 @@ module _ (u : PlainUnit) where
     stmt_exact : (s : PlainStmt) (ls : List Loop) (vs : Vars) → IsPlace u ls vs → AllByRecursion (Clear u) (items s ls []) → IsInner false 0 s → IsExactStmt s vs
     stmt_exact (loop x lo rel hi body) ls vs p c h =
         let l : Loop = record { name = x; lo = lo; rel = rel; hi = hi } in
-        let r : LoopIs u ls vs l = loop_is u ls vs l body p c.0 in
-        (
+        let r : LoopIs u ls vs l = loop_is u ls vs l body p c.0 in (
           r.first,
           r.last,
           all_inside (λ v. IsPlace u (l ∷ ls) ((x, v) ∷ vs)) (λ v. AreExactStmts body ((x, v) ∷ vs)) (λ v q. stmts_exact body (l ∷ ls) ((x, v) ∷ vs) q c.1 h.4) (loop_values (exact lo vs) rel (exact hi vs)) r.inside,

@@ -2,7 +2,6 @@ pub mod Exact
 pub mod Expressions
 pub mod Heads
 pub mod Intervals
-pub mod Nest
 pub mod OneLoop
 pub mod Products
 pub mod Sources
@@ -10,3 +9,4 @@ pub mod Statements
 pub mod Units
 pub mod Values
 pub mod Words
+pub mod Worked

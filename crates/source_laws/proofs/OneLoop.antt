@@ -1,10 +1,10 @@
 -- Each unit of the one-loop form is accepted as a source, and has no irregular subscript.
-use Rattle.std.proofs.Common.{◌≡◌, ℕ, suc, ◌+◌, ◌<◌, ◌≤◌, ◌^◌, Bool, true, false, not, cond, ◌&&◌, ◌||◌, List, [], ◌∷◌, length, Option, Some, None, ℤ, pos, ◌+ℤ◌, ◌-ℤ◌, ◌≤ℤ◌, neg_ℤ, refl, sym, ap, subst, arith}
+use Rattle.std.proofs.Common.{◌≡◌, ℕ, ◌+◌, ◌<◌, ◌≤◌, ◌^◌, Bool, true, false, not, cond, ◌&&◌, ◌||◌, List, [], ◌∷◌, Option, Some, None, ℤ, pos, ◌+ℤ◌, ◌-ℤ◌, ◌≤ℤ◌, neg_ℤ, refl, sym, ap, subst, arith}
 use Rattle.std.specs.Prelude.{bytes_eq, nat_eq, int_le}
 use Rattle.std.specs.Int.{int_max}
 use Rattle.std.specs.List.{AllByRecursion, list_all}
 use Rattle.std.proofs.lemmas.Int.{ints, clamps}
-use Rattle.std.proofs.lemmas.Bool.{and_from, or_from, le-ltb, le-leb, lt-ltb}
+use Rattle.std.proofs.lemmas.Bool.{and_from, or_from, le-ltb, le-leb}
 use Rattle.c_tree.specs.Plain.{Word, PlainExpr, lit, var, bin, no_exprs, more_exprs, PlainStmt, loop, assign, PlainParam, int_param, array_param, PlainUnit}
 use Rattle.c_tree.specs.OneLoop.{Offset, bare, plus, minus, Item, number, element, OneLoop, IsNear, IsSmall, IsAllowed, IsOneLoop, elements, offset_of, cell_of, item_of, sum_from, one_stmt, unit_of}
 use Rattle.c_tree.specs.declared.expr.Rel.TheVariants.{Lt}

@@ -1,5 +1,5 @@
 -- An accepted source without irregular subscripts is a source of the laws of runs.
-use Rattle.std.proofs.Common.{◌≡◌, ◌<◌, ◌^◌, Bool, true, false, not, ◌&&◌, List, [], ◌∷◌, length, ℤ, Option, refl, sym, ◌∙◌, subst, inl, inr, true≢false}
+use Rattle.std.proofs.Common.{◌≡◌, ◌<◌, ◌^◌, true, false, not, ◌&&◌, List, [], ◌∷◌, length, Option, refl, sym, ◌∙◌, subst, inl, inr, true≢false}
 use Rattle.std.specs.List.{AllByRecursion, list_all}
 use Rattle.std.proofs.lemmas.Bool.{and_parts, false_from_ne_true}
 use Rattle.c_tree.specs.Plain.{Word, PlainExpr, lit, var, cell, un, bin, cast, test, umin, umax, least, greatest, widen, big, PlainExprs, no_exprs, more_exprs, PlainTest, PlainStmt, loop, choice, assign, table, begin, check, verdict, PlainStmts, no_stmts, more_stmts, PlainUnit}

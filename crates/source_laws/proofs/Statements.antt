@@ -19,7 +19,7 @@ use Rattle.acceptance.specs.Head.{list_of, uses_known}
 use Rattle.acceptance.specs.Printed.{dimensions, fits_dimensions, all_fit_dimensions, tests_fit, literals_fit}
 use Rattle.acceptance.specs.Parts.{parts_hold, are_regular, cells_hold}
 use Rattle.acceptance.specs.Limits.{cells_in, reads_to}
-use Rattle.acceptance.specs.Trees.{IsTree, is_place, IsInner, AreInner}
+use Rattle.acceptance.specs.Trees.{is_place, IsInner, AreInner}
 use Rattle.acceptance.specs.Sources.{is_regular, all_are_regular}
 use Rattle.accepted_laws.proofs.Clear.{Clear, all_front, all_back, tables_same}
 use Rattle.source_laws.proofs.Expressions.{Stands, stands_inside, its_arrays, its_number, IsCell, cell_is, affine_countable, affine_silent, affine_no_word, signed_own, signed_named, all_countable, all_regular, plain_subscripts, IsAsked, no_word_join, asked_bin, asked_test, asked_umin, asked_umax, CastIs, of_affine, of_data, cast_is}

@@ -64,8 +64,8 @@ module _ (u : PlainUnit) (a : IsAcceptedSource u) (ns : List ℤ) where
   source : all_are_regular u.body ≡ true → AreInRange u.ranges u.params ns → exactly.AreSource (arrays_for u ns) [] u.body vs
   source r h = stmts_source u vs head.few_arrays u.body [] vs head.stands clear.items a.tree.body r (body_exact h)
 
-pub are_exact : (u : PlainUnit) (i : PlainInputs) → IsAcceptedSource u → Fit u i → IsExactFor u i
-are_exact u i a fit = record { extents = head_exact u a i.ints fit.ints; body = body_exact u a i.ints fit.ints }
+pub are_exact : (u : PlainUnit) (ns : List ℤ) → IsAcceptedSource u → AreInRange u.ranges u.params ns → IsExactFor u ns
+are_exact u ns a h = record { extents = head_exact u a ns h; body = body_exact u a ns h }
 
 pub have_forms : (u : PlainUnit) (i : PlainInputs) → IsRegularSource u → Fit u i → HasForms u i
 have_forms u i a fit =

@@ -1,5 +1,5 @@
 -- The literals of a source are words, and so are the values of its assignments.
-use Rattle.std.proofs.Common.{◌≡◌, false, List, [], ◌∷◌, ℤ, sym, Option, Some, None, true≢false}
+use Rattle.std.proofs.Common.{false, List, [], ◌∷◌, ℤ, Option, Some, None}
 use Rattle.std.specs.List.{AllByRecursion}
 use Rattle.c_tree.specs.Plain.{PlainExpr, lit, var, cell, un, bin, cast, test, umin, umax, least, greatest, widen, big, PlainStmt, loop, choice, assign, table, begin, check, verdict, PlainStmts, no_stmts, more_stmts}
 use Rattle.c_tree.specs.Values.{Vars, signed, loop_values}

@@ -1,11 +1,10 @@
 -- Where no signed value wraps: it is modulo 2^64 what it is as a whole number, for all values that the loops around it have.
-use Rattle.std.specs.Prelude.{◌≡◌, true, false, ◌∷◌}
+use Rattle.std.specs.Prelude.{◌≡◌, true, false, List, ◌∷◌, ℤ}
 use Rattle.std.specs.List.{AllByRecursion}
 use Rattle.c_tree.specs.Plain.{PlainExpr, lit, var, cell, un, bin, cast, test, umin, umax, least, greatest, widen, big, PlainExprs, no_exprs, more_exprs, PlainTest, PlainStmt, loop, choice, assign, table, begin, check, verdict, PlainStmts, no_stmts, more_stmts, PlainUnit}
 use Rattle.c_tree.specs.Kinds.{is_signed}
 use Rattle.c_tree.specs.Values.{Vars, exact, loop_values, kind}
 use Rattle.c_tree.specs.Arrays.{vars_of}
-use Rattle.c_tree.specs.Inputs.{PlainInputs}
 use Rattle.run_laws.specs.Sources.{IsExact}
 use Rattle.acceptance.specs.Head.{list_of, extents_in}
 
@@ -49,6 +48,7 @@ abbrev mutual
   AreExactStmts no_stmts vs = Unit {0}
   AreExactStmts (more_stmts s ss) vs = IsExactStmt s vs × AreExactStmts ss vs
 
-pub record IsExactFor (u : PlainUnit) (i : PlainInputs) : Type 0 where
-  pub extents : AllByRecursion (λ e. IsExact e (vars_of u.params i.ints)) (extents_in u.params)
-  pub body : AreExactStmts u.body (vars_of u.params i.ints)
+-- a unit whose parameters have these values
+pub record IsExactFor (u : PlainUnit) (ns : List ℤ) : Type 0 where
+  pub extents : AllByRecursion (λ e. IsExact e (vars_of u.params ns)) (extents_in u.params)
+  pub body : AreExactStmts u.body (vars_of u.params ns)

@@ -1,11 +1,11 @@
 -- What an accepted source has, for inputs that fit: all that the laws of runs and of instrumented texts ask of it.
-use Rattle.std.specs.Prelude.{◌≡◌, ◌<◌, ◌^◌, true, length, Option, None}
+use Rattle.std.specs.Prelude.{◌≡◌, ◌<◌, ◌^◌, true, List, length, ℤ, Option, None}
 use Rattle.c_tree.specs.Plain.{Word, PlainUnit}
 use Rattle.c_tree.specs.Arrays.{vars_of}
 use Rattle.c_tree.specs.Fault.{Fault}
 use Rattle.c_tree.specs.Instances.{literal_of, accesses}
 use Rattle.c_tree.specs.OneLoop.{IsOneLoop}
-use Rattle.c_tree.specs.Inputs.{PlainInputs, arrays_for, memory_for, Fit, IsClean, IsSound}
+use Rattle.c_tree.specs.Inputs.{PlainInputs, arrays_for, memory_for, AreInRange, Fit, IsClean, IsSound}
 use Rattle.c_tree.specs.Run.{run}
 use Rattle.run_laws.specs.Laws.{IsSourceFor, RunsThrough}
 use Rattle.instrumentation_laws.specs.RegularUnits.{number_for, IsRegular}
@@ -27,7 +27,7 @@ pub record IsRegularSource (u : PlainUnit) : Type 0 where
 
 -- No signed value of an accepted source wraps, whatever subscripts it has.
 abbrev pub AcceptedAreExact : Type 0
-AcceptedAreExact = (u : PlainUnit) (i : PlainInputs) → IsAcceptedSource u → Fit u i → IsExactFor u i
+AcceptedAreExact = (u : PlainUnit) (ns : List ℤ) → IsAcceptedSource u → AreInRange u.ranges u.params ns → IsExactFor u ns
 
 -- Without irregular subscripts it is a source of the laws of runs.
 abbrev pub AcceptedAreSources : Type 0

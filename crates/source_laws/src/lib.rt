@@ -1,12 +1,16 @@
 //! Laws of accepted sources: they have all that the laws of runs, of instrumented texts and of counting passes ask.
 #![tactic(auto)]
 
+ghost use Rattle.acceptance.specs.Sources.{IsAcceptedSource, all_are_regular};
+ghost use Rattle.c_tree.specs.Inputs.{AreInRange};
+ghost use Rattle.source_laws.specs.Exact.{IsExactFor};
+ghost use Rattle.std.specs.Prelude.{◌≡◌, false, List, ℤ};
 ghost use Rattle.source_laws.specs.Laws.{AcceptedAreExact, AcceptedAreGuarded, AcceptedAreReady, AcceptedAreRunnable, AcceptedAreSources, AcceptedArePrinted, AcceptedFollow, AcceptedHaveForms, AcceptedRunAlike, OneLoopIsAccepted, IsRegularSource};
 ghost use Rattle.guard_laws.specs.Guards.{Guards};
 ghost use Rattle.instrumentation.specs.Guarded.{guarded};
-ghost use Rattle.acceptance.specs.WorkedSources.{mix};
+ghost use Rattle.acceptance.specs.WorkedSources.{gather, mix};
 
-/// For inputs that fit no signed value of an accepted source wraps: its bounds, the sides of its tests, its extents, its subscripts and the signed operands of its casts are what they are as whole numbers.
+/// Where the parameters lie in their ranges no signed value of an accepted source wraps, index cells or not: its extents and bounds, the sides of its tests, its subscripts and the signed operands of its casts are what they are as whole numbers, at all values that the loops around them have.
 pub fn accepted_sources_are_exact()
     ensures { AcceptedAreExact }
 {}
@@ -67,4 +71,13 @@ pub fn a_nest_is_guarded()
     ensures guarded { Guards mix (guarded mix) }
 {
     accepted_sources_are_guarded();
+}
+
+/// A source that reads through an index array is accepted, and no signed value of it wraps.
+pub fn a_gather_is_exact()
+    ensures accepted { IsAcceptedSource gather }
+    ensures irregular { all_are_regular gather.body ≡ false }
+    ensures exact { (ns : List ℤ) → AreInRange gather.ranges gather.params ns → IsExactFor gather ns }
+{
+    accepted_sources_are_exact();
 }

@@ -1,4 +1,4 @@
-use Rattle.source_laws.proofs.Nest.{mix_accepted}
+use Rattle.source_laws.proofs.Worked.{mix_accepted}
 use Rattle.acceptance.specs.WorkedSources.{mix}
 use Rattle.source_laws.proofs.a_nest_is_guarded.Goals as goal
 
