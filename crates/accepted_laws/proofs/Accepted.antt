@@ -22,7 +22,7 @@ use Rattle.accepted_laws.proofs.Clear.{Clear, Unrefused, unrefused, all_front, a
 
 -- ---- counts
 
-same_count : (ps : List PlainParam) → array_count ps ≡ length (array_names ps)
+pub same_count : (ps : List PlainParam) → array_count ps ≡ length (array_names ps)
 same_count [] = refl
 same_count (int_param x ∷ ps) = same_count ps
 same_count (array_param x c es ∷ ps) = ap suc (same_count ps)
@@ -42,7 +42,7 @@ few_cells (greatest a b) = omega arith
 few_cells (widen a) = omega arith
 few_cells (big high low) = omega arith
 
-few_full : (t : PlainExpr) (op : Option BinOp) (e : PlainExpr) → reads_in (full t op e) ≤ reads_to t op + cells_in e
+pub few_full : (t : PlainExpr) (op : Option BinOp) (e : PlainExpr) → reads_in (full t op e) ≤ reads_to t op + cells_in e
 few_full t None e = (let p = few_cells e in omega arith)
 few_full t (Some op) e = (let p = few_cells t in let q = few_cells e in omega arith)
 
@@ -84,7 +84,7 @@ module _ (sc : Scope) where
   subscripts_are no_exprs o n h = absurd o
   subscripts_are (more_exprs e es) o n h = all_are (more_exprs e es) n h
 
-  unsigned_data : (e : PlainExpr) → has_signed sc e ≡ false → parts.is_data sc e ≡ true
+  pub unsigned_data : (e : PlainExpr) → has_signed sc e ≡ false → parts.is_data sc e ≡ true
   unsigned_data (lit n) h = refl
   unsigned_data (var x) h = ap not h
   unsigned_data (cell x at) h = refl

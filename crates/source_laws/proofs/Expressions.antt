@@ -2,7 +2,7 @@
 use Rattle.std.proofs.Common.{◌≡◌, ℕ, zero, suc, ◌+◌, ◌<◌, ◌≤◌, ◌^◌, Bool, true, false, not, cond, ◌&&◌, ◌||◌, List, [], ◌∷◌, length, ℤ, Some, refl, sym, ap, ◌∙◌, subst, arith, true≢false}
 use Rattle.std.specs.Prelude.{bytes_eq, nat_eq}
 use Rattle.std.specs.List.{list_all}
-use Rattle.std.proofs.lemmas.Bool.{eqb-true, and_from, and_parts, or_parts, not-true, or_left, or_right}
+use Rattle.std.proofs.lemmas.Bool.{eqb-true, and_from, and_parts, not-true, or_left, or_right}
 use Rattle.std.proofs.lemmas.Slice.Eq.{bytes_eq-Decides}
 use Rattle.c_tree.specs.declared.expr.Rel.{Rel}
 use Rattle.c_tree.specs.declared.expr.UnOp.{UnOp}
@@ -23,6 +23,7 @@ use Rattle.instrumentation_laws.specs.RegularSources as regular
 use Rattle.instrumentation_laws.proofs.Declared.{names_are, known_array}
 use Rattle.pass_laws.specs.Countable as countable
 use Rattle.pass_laws.specs.Countable.{rank}
+use Rattle.accepted_laws.proofs.Accepted.{unsigned_data}
 use Rattle.acceptance.specs.Items.{Loop, Scope, scope_of, is_loop, is_int, is_param, is_scalar, is_declared, is_known, is_signed_name}
 use Rattle.acceptance.specs.Affine.{has_name, is_affine_un, is_affine_bin, is_affine}
 use Rattle.acceptance.specs.Head.{list_of, uses_known}
@@ -74,9 +75,6 @@ stands_inside u ls vs l v o s = record {
 -- the scope of parameters alone
 abbrev params_scope : List PlainParam → Scope
 params_scope ps = record { params = ps; words = []; wides = []; loops = []; tables = [] }
-
-same_dimensions : (u : PlainUnit) (ls : List Loop) (x : Word) → dimensions (scope_of u ls []) x ≡ dimensions (params_scope u.params) x
-same_dimensions u ls x = refl
 
 pub rank_is : (at : PlainExprs) → rank at ≡ length (list_of at)
 rank_is no_exprs = refl
@@ -231,22 +229,6 @@ module _ (u : PlainUnit) (ls : List Loop) (vs : Vars) (s : Stands u ls vs) where
   signed_named (widen a) t h = absurd (true≢false (sym t.0))
   signed_named (big high low) t h = absurd (true≢false (sym t.0))
 
-  -- without signed names it is data
-  pub unsigned_data : (e : PlainExpr) → has_signed sc e ≡ false → is_data sc e ≡ true
-  unsigned_data (lit n) h = refl
-  unsigned_data (var x) h = ap not h
-  unsigned_data (cell x at) h = refl
-  unsigned_data (un op a) h = unsigned_data a h
-  unsigned_data (bin op a b) h = and_from _ _ (unsigned_data a (or_parts (has_signed sc a) (has_signed sc b) h).0) (unsigned_data b (or_parts (has_signed sc a) (has_signed sc b) h).1)
-  unsigned_data (cast a) h = refl
-  unsigned_data (test rel a b) h = and_from _ _ (unsigned_data a (or_parts (has_signed sc a) (has_signed sc b) h).0) (unsigned_data b (or_parts (has_signed sc a) (has_signed sc b) h).1)
-  unsigned_data (umin a b) h = and_from _ _ (unsigned_data a (or_parts (has_signed sc a) (has_signed sc b) h).0) (unsigned_data b (or_parts (has_signed sc a) (has_signed sc b) h).1)
-  unsigned_data (umax a b) h = and_from _ _ (unsigned_data a (or_parts (has_signed sc a) (has_signed sc b) h).0) (unsigned_data b (or_parts (has_signed sc a) (has_signed sc b) h).1)
-  unsigned_data (least a b) h = and_from _ _ (unsigned_data a (or_parts (has_signed sc a) (has_signed sc b) h).0) (unsigned_data b (or_parts (has_signed sc a) (has_signed sc b) h).1)
-  unsigned_data (greatest a b) h = and_from _ _ (unsigned_data a (or_parts (has_signed sc a) (has_signed sc b) h).0) (unsigned_data b (or_parts (has_signed sc a) (has_signed sc b) h).1)
-  unsigned_data (widen a) h = unsigned_data a h
-  unsigned_data (big high low) h = refl
-
   -- ---- subscripts
 
   pub all_countable : (at : PlainExprs) → list_all (is_affine sc) (list_of at) ≡ true → countable.AreAffine at vs
@@ -387,4 +369,4 @@ cast_is u ls vs s a h = chosen (has_signed (scope_of u ls []) a) refl h.affine
   where
     chosen : (b : Bool) → has_signed (scope_of u ls []) a ≡ b → cond b (is_affine (scope_of u ls []) a) (parts_hold (is_affine (scope_of u ls [])) (scope_of u ls []) a) ≡ true → CastIs (scope_of u ls []) a
     chosen true e g = of_affine e g
-    chosen false e g = of_data e (record { known = h.known; affine = g; data_alone = unsigned_data u ls vs s a e; fits = h.fits; plain = h.plain; literals = h.literals; tree = h.tree })
+    chosen false e g = of_data e (record { known = h.known; affine = g; data_alone = unsigned_data (scope_of u ls []) a e; fits = h.fits; plain = h.plain; literals = h.literals; tree = h.tree })

@@ -26,6 +26,7 @@ use Rattle.acceptance.specs.Limits.{int_count, array_count}
 use Rattle.acceptance.specs.Trees.{IsSourceTree, AreParams, AreWords}
 use Rattle.source_laws.proofs.Products.{Within}
 use Rattle.source_laws.proofs.Intervals.{Suits, signed_exact}
+use Rattle.accepted_laws.proofs.Accepted.{same_count}
 use Rattle.accepted_laws.proofs.Clear.{Unrefused}
 use Rattle.source_laws.proofs.Expressions.{Stands, affine_own, rank_is, extents_long}
 use Rattle.source_laws.proofs.Statements.{reserved_own}
@@ -116,11 +117,6 @@ none_named x (array_param y constant extents ∷ ps) h =
     none true b e g = e
     none false b e g = g
 
-pub names_long : (ps : List PlainParam) → length (array_names ps) ≡ array_count ps
-names_long [] = refl
-names_long (int_param y ∷ ps) = names_long ps
-names_long (array_param y constant extents ∷ ps) = ap suc (names_long ps)
-
 ranks_of : (ps : List PlainParam) → AreParams false ps → HaveRanks (arrays_with_extents ps)
 ranks_of [] h = tt
 ranks_of (int_param y ∷ ps) h = ranks_of ps h.1
@@ -208,7 +204,7 @@ module _ (u : PlainUnit) (t : IsSourceTree u) (c : Unrefused u) where
       let long = params_long u.params ns in
       let ints : int_count u.params ≤ 8 = c.few_ints in
       let arrays : array_count u.params ≤ 16 = c.few_arrays in
-      let names = names_long u.params in
+      let names = same_count u.params in
       record {
         stands = record { names = params_in u.params ns; owned = declared_own; few = omega arith };
         own_values = values;

@@ -1,5 +1,5 @@
 -- The statements of an accepted source have regular and countable forms, whatever values their loops have.
-use Rattle.std.proofs.Common.{◌≡◌, ℕ, suc, ◌+◌, ◌<◌, ◌≤◌, ◌^◌, Bool, true, false, not, ◌&&◌, ◌||◌, List, [], ◌∷◌, length, ℤ, Option, Some, None, refl, sym, ap, ◌∙◌, subst, arith, true≢false}
+use Rattle.std.proofs.Common.{◌≡◌, ℕ, suc, ◌+◌, ◌<◌, ◌≤◌, ◌^◌, Bool, true, false, not, ◌&&◌, ◌||◌, List, [], ◌∷◌, length, ℤ, Option, refl, sym, ap, ◌∙◌, subst, arith, true≢false}
 use Rattle.std.proofs.lemmas.Bool.{and_parts, or_parts}
 use Rattle.std.specs.Prelude.{bytes_eq, nat_eq}
 use Rattle.std.specs.List.{AllByRecursion, list_all}
@@ -19,8 +19,9 @@ use Rattle.acceptance.specs.Head.{list_of, uses_known}
 use Rattle.acceptance.specs.Printed.{dimensions, fits_dimensions, all_fit_dimensions, tests_fit, literals_fit}
 use Rattle.acceptance.specs.Parts.{parts_hold, are_regular, cells_hold}
 use Rattle.acceptance.specs.Limits.{cells_in, reads_to}
-use Rattle.acceptance.specs.Trees.{is_place, IsInner, AreInner}
+use Rattle.acceptance.specs.Trees.{IsInner, AreInner}
 use Rattle.acceptance.specs.Sources.{is_regular, all_are_regular}
+use Rattle.accepted_laws.proofs.Accepted.{few_full}
 use Rattle.accepted_laws.proofs.Clear.{Clear, all_front, all_back, tables_same}
 use Rattle.source_laws.proofs.Expressions.{Stands, stands_inside, its_arrays, its_number, IsCell, cell_is, affine_countable, affine_silent, affine_no_word, signed_own, signed_named, all_countable, all_regular, plain_subscripts, IsAsked, no_word_join, asked_bin, asked_test, asked_umin, asked_umax, CastIs, of_affine, of_data, cast_is}
 
@@ -31,29 +32,9 @@ reserved_own x h = ap not (left _ _ h)
     left true b e = e
     left false b e = refl
 
--- ---- numbers of reads
-
-pub reads_below : (e : PlainExpr) → reads_in e ≤ cells_in e
-reads_below (lit n) = omega arith
-reads_below (var x) = omega arith
-reads_below (cell x at) = omega arith
-reads_below (un op a) = reads_below a
-reads_below (bin op a b) = let f = reads_below a in let g = reads_below b in omega arith
-reads_below (cast a) = reads_below a
-reads_below (test rel a b) = let f = reads_below a in let g = reads_below b in omega arith
-reads_below (umin a b) = let f = reads_below a in let g = reads_below b in omega arith
-reads_below (umax a b) = let f = reads_below a in let g = reads_below b in omega arith
-reads_below (least a b) = omega arith
-reads_below (greatest a b) = omega arith
-reads_below (widen a) = omega arith
-reads_below (big high low) = omega arith
-
-full_reads : (t : PlainExpr) (op : Option BinOp) (e : PlainExpr) → is_place t ≡ true → reads_to t op + cells_in e ≤ 16 → reads_in (full t op e) < 2 ^ 64
-full_reads (var x) None e p h = let f = reads_below e in omega arith
-full_reads (var x) (Some op) e p h = let f = reads_below e in omega arith
-full_reads (cell x at) None e p h = let f = reads_below e in omega arith
-full_reads (cell x at) (Some op) e p h = let f = reads_below e in omega arith
-full_reads _ op e p h = absurd (true≢false (sym p))
+-- an assignment makes few reads
+few_words : (t : PlainExpr) (op : Option BinOp) (e : PlainExpr) → reads_to t op + cells_in e ≤ 16 → reads_in (full t op e) < 2 ^ 64
+few_words t op e h = let f = few_full t op e in omega arith
 
 -- ---- names
 
@@ -204,11 +185,11 @@ module _ (u : PlainUnit) (params : Vars) (few_arrays : length (array_names u.par
         regular.IsSource arrays number (assign t op e) vs × countable.IsCountable arrays number (assign t op e) vs
     assign_both (var x) op e c h r =
         let b = data_both e (value_asked u ls (var x) op e c h r) in
-        ((s.owned x (and_parts (is_known sc x) (uses_known sc e) c.known).0, b.0, full_reads (var x) op e refl c.few), (tt, b.1))
+        ((s.owned x (and_parts (is_known sc x) (uses_known sc e) c.known).0, b.0, few_words (var x) op e c.few), (tt, b.1))
     assign_both (cell x at) op e c h r =
         let b = data_both e (value_asked u ls (cell x at) op e c h r) in
         let t = cell_both x at (cell_asked u ls x at op e c h r) in
-        ((t.0, b.0, full_reads (cell x at) op e refl c.few), (t.1, b.1))
+        ((t.0, b.0, few_words (cell x at) op e c.few), (t.1, b.1))
     assign_both _ op e c h r = absurd (true≢false (sym h.0))
 
   -- ---- statements
