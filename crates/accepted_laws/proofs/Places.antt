@@ -18,7 +18,8 @@ use Rattle.acceptance_laws.proofs.Statements.{AreTests}
 use Rattle.acceptance_laws.proofs.Fine.{inside}
 use Rattle.acceptance_laws.proofs.TextWords.{scalar_append}
 use Rattle.acceptance_laws.proofs.Units.{head_of}
-use Rattle.accepted_laws.specs.Regular.{all_affine, are_subscripts, has_signed, is_data, tests_affine, is_target, AreRanked}
+use Rattle.acceptance.specs.Parts.{has_signed}
+use Rattle.accepted_laws.specs.Regular.{all_affine, are_subscripts, is_data, tests_affine, is_target, AreRanked}
 use Rattle.acceptance.specs.Trees.{is_assigning}
 use Rattle.accepted_laws.proofs.Dimensions.{param_array, array_has, has_array}
 

@@ -1,18 +1,18 @@
 -- The sample is of the grammar, no refusal names it, and so it is regular: each fact is computed.
-use Rattle.std.proofs.Common.{refl, arith, codes, false}
+use Rattle.std.proofs.Common.{◌≡◌, None, refl, arith, codes, false}
 use Rattle.std.proofs.lemmas.Int.{ints}
 use Rattle.c_tree.specs.Plain.{Word}
 use Rattle.instrumentation.specs.Guarded.{guarded}
 use Rattle.acceptance.specs.Printed.{IsAcceptedPrinted}
+use Rattle.acceptance.specs.Sources.{refusal}
 use Rattle.acceptance.specs.Trees.{IsNameIn, IsSourceTree, IsPrintedTree}
-use Rattle.accepted_laws.specs.Refusals.{IsRefusedNowhere}
 use Rattle.accepted_laws.specs.Regular.{IsRegular}
 use Rattle.accepted_laws.specs.Sample.{source}
 use Rattle.accepted_laws.proofs.Regular.{regular_accepted}
 use Rattle.accepted_laws.proofs.TextTrees.{regular_tree}
-use Rattle.accepted_laws.proofs.Unrefused.{unrefused_regular}
+use Rattle.accepted_laws.proofs.Accepted.{accepted_regular}
 
-pub unrefused : IsRefusedNowhere source
+pub unrefused : refusal source ≡ None
 unrefused = refl
 
 abbrev Named : Word → Type 0
@@ -81,7 +81,7 @@ tree = record {
 }
 
 pub regular : IsRegular source
-regular = unrefused_regular source tree unrefused refl
+regular = accepted_regular source (record { tree = tree; refused_nowhere = unrefused }) refl
 
 pub sample_accepted : IsAcceptedPrinted (guarded source)
 sample_accepted = regular_accepted source regular tree

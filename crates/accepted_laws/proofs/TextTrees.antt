@@ -403,7 +403,7 @@ same_arrays [] = refl
 same_arrays (int_param x ∷ ps) = same_arrays ps
 same_arrays (array_param x c es ∷ ps) = ap suc (same_arrays ps)
 
-ranked : (ps : List PlainParam) → AreParams false ps → AreRanked ps
+pub ranked : (ps : List PlainParam) → AreParams false ps → AreRanked ps
 ranked [] h = tt
 ranked (int_param x ∷ ps) h = ranked ps h.1
 ranked (array_param x c no_exprs ∷ ps) h = absurd h.1

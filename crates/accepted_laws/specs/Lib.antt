@@ -1,6 +1,5 @@
 pub mod Broken
 pub mod Pieces
-pub mod Refusals
 pub mod Regular
 pub mod Sample
 pub mod Tall

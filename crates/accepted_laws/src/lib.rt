@@ -4,9 +4,9 @@
 ghost use Rattle.acceptance.specs.Printed.{IsAcceptedPrinted, StoresNothingBefore};
 ghost use Rattle.acceptance.specs.Runnable.{IsRunnable};
 ghost use Rattle.accepted_laws.specs.Broken.{whole, reserved_scalar, size_again, unknown_value, two_subscripts, wide_shift, bare_variable, is_clear};
+ghost use Rattle.acceptance.specs.Sources.{refusal, IsAcceptedSource, all_are_regular};
 ghost use Rattle.acceptance.specs.Trees.{IsSourceTree, IsPrintedTree};
 ghost use Rattle.acceptance.specs.Heights.{IsLow, all_exprs_height};
-ghost use Rattle.accepted_laws.specs.Refusals.{IsRefusedNowhere, all_read_plainly};
 ghost use Rattle.accepted_laws.specs.Regular.{IsRegular};
 ghost use Rattle.accepted_laws.specs.Sample.{source};
 ghost use Rattle.accepted_laws.specs.Tall.{tall};
@@ -14,7 +14,7 @@ ghost use Rattle.c_tree.specs.Grammar.Statements.{stmts_height};
 ghost use Rattle.c_tree.specs.OneLoop.{IsOneLoop};
 ghost use Rattle.c_tree.specs.Plain.{PlainUnit};
 ghost use Rattle.instrumentation.specs.Guarded.{guarded};
-ghost use Rattle.std.specs.Prelude.{◌≡◌, true, false};
+ghost use Rattle.std.specs.Prelude.{◌≡◌, true, false, None};
 
 /// The instrumented unit of a regular source that is a tree of the grammar is accepted as a printed unit, and is one that the interpreter runs. It stores into no array before the source's statements begin.
 /// Where the source's statements and expressions are at most 64 high, its statements are at most 129 high, and its expressions at most 65.
@@ -27,15 +27,15 @@ pub fn regular_is_accepted()
     ensures printed { (u : PlainUnit) → IsRegular u → IsSourceTree u → IsPrintedTree (guarded u) }
 {}
 
-/// A source of the grammar that no refusal names, and in which no subscript is a cell, is regular.
-pub fn unrefused_is_regular()
-    ensures { (u : PlainUnit) → IsSourceTree u → IsRefusedNowhere u → all_read_plainly u.body ≡ true → IsRegular u }
+/// An accepted source in which no subscript is a cell is regular.
+pub fn accepted_source_is_regular()
+    ensures { (u : PlainUnit) → IsAcceptedSource u → all_are_regular u.body ≡ true → IsRegular u }
 {}
 
 /// A source of two loops, two arrays, a scalar and a choice with an else is of the grammar, no refusal names it, it is regular, and its instrumented unit is accepted and is of the grammar.
 pub fn a_nest_is_accepted()
     ensures tree { IsSourceTree source }
-    ensures unrefused { IsRefusedNowhere source }
+    ensures unrefused { refusal source ≡ None }
     ensures regular { IsRegular source }
     ensures accepted { IsAcceptedPrinted (guarded source) }
     ensures printed { IsPrintedTree (guarded source) }
@@ -54,7 +54,7 @@ pub fn one_loop_is_regular()
 /// The bounds 129 and 65 are met: by a source that no refusal names, with a loop and 62 choices around an assignment whose value is 64 high.
 pub fn heights_are_met()
     ensures low { IsLow 64 64 tall }
-    ensures unrefused { IsRefusedNowhere tall }
+    ensures unrefused { refusal tall ≡ None }
     ensures stmts { stmts_height (guarded tall).body ≡ 129 }
     ensures exprs { all_exprs_height (guarded tall).body ≡ 65 }
 {}

@@ -1,1 +1,1 @@
-pub mod OneLoop
+pub mod Guarded

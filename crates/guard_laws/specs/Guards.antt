@@ -18,6 +18,7 @@ use Rattle.instrumentation_laws.specs.UnitLaws.{IsCounted, totals_over}
 use Rattle.instrumentation_laws.specs.RegularUnits.{number_for, wides_for}
 use Rattle.pass_laws.specs.Countable.{AllHaveNoCells}
 use Rattle.pass_laws.specs.Going.{GoesTo, Turned}
+use Rattle.pass_laws.specs.Laws.{IsReady}
 use Rattle.pass_laws.specs.Places.{IsPlace}
 
 -- ---- without a fault
@@ -91,6 +92,10 @@ pub record GuardsInDetail (source unit : PlainUnit) : Type 0 where
   pub counted : CountsUses source unit
   pub turns : PassesTurnAsSource source
 
--- Each unit of the one-loop form is guarded by its instrumented unit.
+-- Each source that is ready, whatever sound inputs it has, is guarded by its instrumented unit.
+abbrev pub ReadyAreGuarded : Type 0
+ReadyAreGuarded = (u : PlainUnit) → ((i : PlainInputs) → IsSound u i → IsReady u i) → GuardsInDetail u (guarded u)
+
+-- So is each unit of the one-loop form.
 abbrev pub OneLoopIsGuarded : Type 0
 OneLoopIsGuarded = (u : PlainUnit) → IsOneLoop u → GuardsInDetail u (guarded u)

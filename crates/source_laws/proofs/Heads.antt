@@ -1,0 +1,227 @@
+-- The head of an accepted source: its names are its own, its parameters lie in their ranges, and no extent wraps.
+use Rattle.std.proofs.Common.{◌≡◌, ℕ, suc, ◌<◌, ◌≤◌, ◌^◌, Bool, true, false, cond, ◌||◌, List, [], ◌∷◌, map, length, ℤ, Some, refl, sym, ap, ◌∙◌, subst, arith, true≢false}
+use Rattle.std.specs.Prelude.{bytes_eq}
+use Rattle.std.specs.List.{list_all, list_any}
+use Rattle.std.proofs.lemmas.Bool.{and_parts, or_parts, not-false}
+use Rattle.std.proofs.lemmas.List.Folds.{list_all-append}
+use Rattle.std.proofs.lemmas.Slice.Eq.{bytes_eq-Decides}
+use Rattle.c_tree.specs.Plain.{Word, PlainExpr, PlainExprs, no_exprs, more_exprs, PlainParam, int_param, array_param, PlainUnit}
+use Rattle.c_tree.specs.Names.{is_among}
+use Rattle.c_tree.specs.Values.{Vars, value_in, is_in}
+use Rattle.c_tree.specs.Arrays.{vars_of, extents_of}
+use Rattle.c_tree.specs.Instances.{literal_of}
+use Rattle.c_tree.specs.Inputs.{range_of, IsBetween, AreInRange}
+use Rattle.c_tree.specs.Reserved.{is_reserved}
+use Rattle.instrumentation.specs.Guarded.{arrays_with_extents, array_names}
+use Rattle.instrumentation_laws.specs.OwnNames.{own, AllMayLoop}
+use Rattle.instrumentation_laws.specs.PrologueTotals.{Measures}
+use Rattle.instrumentation_laws.specs.RegularUnits.{AreMeasured}
+use Rattle.instrumentation_laws.proofs.Names.{apart_by, own_may}
+use Rattle.pass_laws.specs.Countable.{AreOwn}
+use Rattle.pass_laws.specs.Laws.{HaveRanks}
+use Rattle.acceptance.specs.Items.{scope_of, is_int, is_param, param_name, is_scalar, is_declared}
+use Rattle.acceptance.specs.Affine.{is_affine, holds_throughout, Intervals, interval_in, is_narrow}
+use Rattle.acceptance.specs.Head.{list_of, extents_in, intervals_of, head_scope, params_twice, words_twice, wides_twice}
+use Rattle.acceptance.specs.Limits.{int_count, array_count}
+use Rattle.acceptance.specs.Trees.{IsSourceTree, AreParams, AreWords}
+use Rattle.source_laws.proofs.Products.{Within}
+use Rattle.source_laws.proofs.Intervals.{Suits, signed_exact}
+use Rattle.accepted_laws.proofs.Accepted.{same_count}
+use Rattle.accepted_laws.proofs.Clear.{Unrefused}
+use Rattle.source_laws.proofs.Expressions.{Stands, affine_own, rank_is, extents_long}
+use Rattle.source_laws.proofs.Statements.{reserved_own}
+
+-- ---- the parameters' values
+
+-- the intervals of range lines
+abbrev lines : List (Word × ℤ × ℤ) → Intervals
+lines = map (λ r. (r.0, (r.1, r.2)))
+
+range_within : (rs : List (Word × ℤ × ℤ)) (x : Word) (n : ℤ) → IsBetween (range_of rs x) n → Within (interval_in (lines rs) x) n
+range_within [] x n h = absurd h
+range_within (r ∷ rs) x n h = chosen (bytes_eq r.0 x) h (range_within rs x n)
+  where
+    chosen : (b : Bool) → IsBetween (cond b (Some (r.1, r.2)) (range_of rs x)) n → (IsBetween (range_of rs x) n → Within (interval_in (lines rs) x) n)
+        → Within (cond b (r.1, r.2) (interval_in (lines rs) x)) n
+    chosen true h f = record { low = h.0; high = h.1 }
+    chosen false h f = f h
+
+-- the value of each `int64_t` parameter lies in the interval of its range line
+value_within : (rs : List (Word × ℤ × ℤ)) (ps : List PlainParam) (ns : List ℤ) → AreInRange rs ps ns → (x : Word) → is_int ps x ≡ true
+    → Within (interval_in (lines rs) x) (value_in (vars_of ps ns) x)
+value_within rs [] [] h x e = absurd (true≢false (sym e))
+value_within rs [] (n ∷ ns) h x e = absurd h
+value_within rs (array_param y constant extents ∷ ps) ns h x e = value_within rs ps ns h x e
+value_within rs (int_param y ∷ ps) [] h x e = absurd h
+value_within rs (int_param y ∷ ps) (n ∷ ns) h x e = chosen (bytes_eq y x) refl e (value_within rs ps ns h.1 x)
+  where
+    chosen : (b : Bool) → bytes_eq y x ≡ b → (b || is_int ps x) ≡ true → (is_int ps x ≡ true → Within (interval_in (lines rs) x) (value_in (vars_of ps ns) x))
+        → Within (interval_in (lines rs) x) (cond b n (value_in (vars_of ps ns) x))
+    chosen true same g f = range_within rs x n (subst (λ w. IsBetween (range_of rs w) n) ((bytes_eq-Decides y x).0 same) h.0)
+    chosen false same g f = f g
+
+-- the names of the values are the parameters
+params_in : (ps : List PlainParam) (ns : List ℤ) (x : Word) → is_in (vars_of ps ns) x ≡ is_int ps x
+params_in [] ns x = refl
+params_in (array_param y constant extents ∷ ps) ns x = params_in ps ns x
+params_in (int_param y ∷ ps) [] x = ap (λ b. bytes_eq y x || b) (params_in ps [] x)
+params_in (int_param y ∷ ps) (n ∷ ns) x = ap (λ b. bytes_eq y x || b) (params_in ps ns x)
+
+params_long : (ps : List PlainParam) (ns : List ℤ) → length (vars_of ps ns) ≡ int_count ps
+params_long [] ns = refl
+params_long (array_param y constant extents ∷ ps) ns = params_long ps ns
+params_long (int_param y ∷ ps) [] = ap suc (params_long ps [])
+params_long (int_param y ∷ ps) (n ∷ ns) = ap suc (params_long ps ns)
+
+-- ---- names of the source
+
+module _ (f : Word → Bool) where
+  chosen_of : (x y : Word) (b : Bool) → bytes_eq y x ≡ b → f y ≡ true → {c : Bool} → (b || c) ≡ true → (c ≡ true → f x ≡ true) → f x ≡ true
+  chosen_of x y true same h e g = subst (λ w. f w ≡ true) ((bytes_eq-Decides y x).0 same) h
+  chosen_of x y false same h e g = g e
+
+param_own : (ps : List PlainParam) → list_any (λ p. is_reserved (param_name p)) ps ≡ false → (x : Word) → is_param ps x ≡ true → own x ≡ true
+param_own [] h x e = absurd (true≢false (sym e))
+param_own (p ∷ ps) h x e =
+    chosen_of own x (param_name p) (bytes_eq (param_name p) x) refl (reserved_own (param_name p) (or_parts (is_reserved (param_name p)) (list_any (λ p. is_reserved (param_name p)) ps) h).0) e
+    (param_own ps (or_parts (is_reserved (param_name p)) (list_any (λ p. is_reserved (param_name p)) ps) h).1 x)
+
+scalar_own : (ws : List (Word × ℕ)) → list_any (λ w. is_reserved w.0) ws ≡ false → (x : Word) → is_scalar ws x ≡ true → own x ≡ true
+scalar_own [] h x e = absurd (true≢false (sym e))
+scalar_own (w ∷ ws) h x e =
+    chosen_of own x w.0 (bytes_eq w.0 x) refl (reserved_own w.0 (or_parts (is_reserved w.0) (list_any (λ w. is_reserved w.0) ws) h).0) e
+    (scalar_own ws (or_parts (is_reserved w.0) (list_any (λ w. is_reserved w.0) ws) h).1 x)
+
+values_own : (ps : List PlainParam) (ns : List ℤ) → list_any (λ p. is_reserved (param_name p)) ps ≡ false → AreOwn (vars_of ps ns)
+values_own [] ns h = tt
+values_own (array_param y constant extents ∷ ps) ns h = values_own ps ns (or_parts (is_reserved y) (list_any (λ p. is_reserved (param_name p)) ps) h).1
+values_own (int_param y ∷ ps) [] h =
+    (reserved_own y (or_parts (is_reserved y) (list_any (λ p. is_reserved (param_name p)) ps) h).0, values_own ps [] (or_parts (is_reserved y) (list_any (λ p. is_reserved (param_name p)) ps) h).1)
+values_own (int_param y ∷ ps) (n ∷ ns) h =
+    (reserved_own y (or_parts (is_reserved y) (list_any (λ p. is_reserved (param_name p)) ps) h).0, values_own ps ns (or_parts (is_reserved y) (list_any (λ p. is_reserved (param_name p)) ps) h).1)
+
+own_may_loop : (vs : Vars) → AreOwn vs → AllMayLoop vs
+own_may_loop [] h = tt
+own_may_loop (v ∷ vs) h = (own_may v.0 h.0, own_may_loop vs h.1)
+
+-- ---- arrays
+
+none_named : (x : Word) (ps : List PlainParam) → is_param ps x ≡ false → list_any (bytes_eq x) (array_names ps) ≡ false
+none_named x [] h = refl
+none_named x (int_param y ∷ ps) h = none_named x ps (or_parts (bytes_eq y x) (is_param ps x) h).1
+none_named x (array_param y constant extents ∷ ps) h =
+    none (bytes_eq x y) (list_any (bytes_eq x) (array_names ps)) (apart_by x y (λ same. true≢false (sym ((bytes_eq-Decides y x).1 (sym same)) ∙ (or_parts (bytes_eq y x) (is_param ps x) h).0)))
+    (none_named x ps (or_parts (bytes_eq y x) (is_param ps x) h).1)
+  where
+    none : (a b : Bool) → a ≡ false → b ≡ false → (a || b) ≡ false
+    none true b e g = e
+    none false b e g = g
+
+ranks_of : (ps : List PlainParam) → AreParams false ps → HaveRanks (arrays_with_extents ps)
+ranks_of [] h = tt
+ranks_of (int_param y ∷ ps) h = ranks_of ps h.1
+ranks_of (array_param y constant es ∷ ps) h =
+    let f = h.2 in
+    let r = rank_is es in
+    (omega arith, ranks_of ps h.3)
+
+module _ (u : PlainUnit) (vs : Vars) (s : Stands u [] vs) (suits : Suits (intervals_of u) (head_scope u) vs) where
+  abbrev affine : PlainExpr → Bool
+  affine = is_affine (head_scope u)
+
+  abbrev narrow : PlainExpr → Bool
+  narrow = holds_throughout (is_narrow (intervals_of u))
+
+  row_measured : (es : PlainExprs) → list_all affine (list_of es) ≡ true → list_all narrow (list_of es) ≡ true → Measures es vs (extents_of vs es)
+  row_measured no_exprs h k = tt
+  row_measured (more_exprs e es) h k =
+      let a = (and_parts (affine e) (list_all affine (list_of es)) h).0 in (
+        affine_own u [] vs s e a,
+        signed_exact (intervals_of u) (head_scope u) vs suits e a (and_parts (narrow e) (list_all narrow (list_of es)) k).0,
+        row_measured es (and_parts (affine e) (list_all affine (list_of es)) h).1 (and_parts (narrow e) (list_all narrow (list_of es)) k).1,
+      )
+
+  measured : (ps : List PlainParam) → params_twice ps ≡ false → AreParams false ps → list_all affine (extents_in ps) ≡ true → list_all narrow (extents_in ps) ≡ true → AreMeasured vs ps
+  measured [] once trees h k = tt
+  measured (int_param x ∷ ps) once trees h k = measured ps (or_parts (is_param ps x) (params_twice ps) once).1 trees.1 h k
+  measured (array_param x constant es ∷ ps) once trees h k =
+      let f = sym (list_all-append affine (list_of es) (extents_in ps)) ∙ h in
+      let g = sym (list_all-append narrow (list_of es) (extents_in ps)) ∙ k in
+      let few = trees.2 in
+      let long = extents_long vs es in (
+        none_named x ps (or_parts (is_param ps x) (params_twice ps) once).0,
+        row_measured es (and_parts (list_all affine (list_of es)) (list_all affine (extents_in ps)) f).0 (and_parts (list_all narrow (list_of es)) (list_all narrow (extents_in ps)) g).0,
+        omega arith,
+        measured ps (or_parts (is_param ps x) (params_twice ps) once).1 trees.3
+            (and_parts (list_all affine (list_of es)) (list_all affine (extents_in ps)) f).1 (and_parts (list_all narrow (list_of es)) (list_all narrow (extents_in ps)) g).1,
+      )
+
+-- ---- scalars
+
+literals_small : (ws : List (Word × ℕ)) → AreWords false ws → (x : Word) → literal_of ws x < 2 ^ 64
+literals_small [] h x = omega arith
+literals_small (w ∷ ws) h x = chosen (bytes_eq w.0 x) h.1 (literals_small ws h.2 x)
+  where
+    chosen : (b : Bool) → w.1 < 2 ^ 64 → literal_of ws x < 2 ^ 64 → cond b w.1 (literal_of ws x) < 2 ^ 64
+    chosen true f g = f
+    chosen false f g = g
+
+-- ---- together
+
+pub record HeadIs (u : PlainUnit) (ns : List ℤ) : Type 0 where
+  pub stands : Stands u [] (vars_of u.params ns)
+  pub own_values : AreOwn (vars_of u.params ns)
+  pub may_loop : AllMayLoop (vars_of u.params ns)
+  pub few_arrays : length (array_names u.params) < 2 ^ 64
+  pub ranks : HaveRanks (arrays_with_extents u.params)
+  pub literals : (x : Word) → literal_of u.words x < 2 ^ 64
+
+pub record Ranged (u : PlainUnit) (ns : List ℤ) : Type 0 where
+  pub suits : Suits (intervals_of u) (head_scope u) (vars_of u.params ns)
+  pub measured : AreMeasured (vars_of u.params ns) u.params
+
+module _ (u : PlainUnit) (t : IsSourceTree u) (c : Unrefused u) where
+  free : ((list_any (λ p. is_reserved (param_name p)) u.params || list_any (λ w. is_reserved w.0) u.words) ≡ false)
+  free = (or_parts (is_reserved u.name) _ c.free.head).1
+
+  free_params : list_any (λ p. is_reserved (param_name p)) u.params ≡ false
+  free_params = (or_parts (list_any (λ p. is_reserved (param_name p)) u.params) (list_any (λ w. is_reserved w.0) u.words) free).0
+
+  declared_own : (x : Word) → is_declared (scope_of u [] []) x ≡ true → own x ≡ true
+  declared_own x h = chosen (is_param u.params x) (is_scalar u.words x) (is_among u.wides x) (ap (λ ws. is_among ws x) t.no_wides)
+      (param_own u.params free_params x) (scalar_own u.words (or_parts (list_any (λ p. is_reserved (param_name p)) u.params) (list_any (λ w. is_reserved w.0) u.words) free).1 x) h
+    where
+      chosen : (a b d : Bool) → d ≡ false → (a ≡ true → own x ≡ true) → (b ≡ true → own x ≡ true) → (a || (b || (d || false))) ≡ true → own x ≡ true
+      chosen true b d e f g h = f refl
+      chosen false true d e f g h = g refl
+      chosen false false true e f g h = absurd (true≢false e)
+      chosen false false false e f g h = absurd (true≢false (sym h))
+
+  pub head_is : (ns : List ℤ) → HeadIs u ns
+  head_is ns =
+      let vs = vars_of u.params ns in
+      let values = values_own u.params ns free_params in
+      let long = params_long u.params ns in
+      let ints : int_count u.params ≤ 8 = c.few_ints in
+      let arrays : array_count u.params ≤ 16 = c.few_arrays in
+      let names = same_count u.params in
+      record {
+        stands = record { names = params_in u.params ns; owned = declared_own; few = omega arith };
+        own_values = values;
+        may_loop = own_may_loop vs values;
+        few_arrays = omega arith;
+        ranks = ranks_of u.params t.head.params;
+        literals = literals_small u.words t.head.words;
+      }
+
+  pub ranged : (ns : List ℤ) → AreInRange u.ranges u.params ns → Ranged u ns
+  ranged ns h =
+      let suits : Suits (intervals_of u) (head_scope u) (vars_of u.params ns) = record { within = value_within u.ranges u.params ns h } in
+      let others = (or_parts (is_among u.wides u.name) _ (or_parts (is_scalar u.words u.name) _ (or_parts (is_param u.params u.name) _ c.once.head).1).1).1 in
+      let once = (or_parts (params_twice u.params) (words_twice u.params u.words || wides_twice u.params u.words u.wides) others).0 in
+      record {
+        suits = suits;
+        measured = measured u (vars_of u.params ns) (head_is ns).stands suits u.params once t.head.params
+            (not-false (list_all (is_affine (head_scope u)) (extents_in u.params)) c.affine.head)
+            (not-false (list_all (holds_throughout (is_narrow (intervals_of u))) (extents_in u.params)) c.narrow.head);
+      }

@@ -1,0 +1,12 @@
+pub mod Exact
+pub mod Expressions
+pub mod Heads
+pub mod Intervals
+pub mod OneLoop
+pub mod Products
+pub mod Sources
+pub mod Statements
+pub mod Units
+pub mod Values
+pub mod Words
+pub mod Worked

@@ -1,0 +1,78 @@
+-- What an accepted source has, for inputs that fit: all that the laws of runs and of instrumented texts ask of it.
+use Rattle.std.specs.Prelude.{◌≡◌, ◌<◌, ◌^◌, true, List, length, ℤ, Option, None}
+use Rattle.c_tree.specs.Plain.{Word, PlainUnit}
+use Rattle.c_tree.specs.Arrays.{vars_of}
+use Rattle.c_tree.specs.Fault.{Fault}
+use Rattle.c_tree.specs.Instances.{literal_of, accesses}
+use Rattle.c_tree.specs.OneLoop.{IsOneLoop}
+use Rattle.c_tree.specs.Inputs.{PlainInputs, arrays_for, memory_for, AreInRange, Fit, IsClean, IsSound}
+use Rattle.c_tree.specs.Run.{run}
+use Rattle.run_laws.specs.Laws.{IsSourceFor, RunsThrough}
+use Rattle.instrumentation_laws.specs.RegularUnits.{number_for, IsRegular}
+use Rattle.instrumentation_laws.specs.UnitLaws.{RunsAlike}
+use Rattle.instrumentation_laws.specs.WordValues.{AllAssignWords}
+use Rattle.pass_laws.specs.Countable.{AreOwn, AreCountable}
+use Rattle.pass_laws.specs.Laws.{HaveRanks, IsReady}
+use Rattle.instrumentation.specs.Guarded.{arrays_with_extents, guarded}
+use Rattle.acceptance.specs.Printed.{IsAcceptedPrinted}
+use Rattle.acceptance.specs.Runnable.{IsRunnable}
+use Rattle.guard_laws.specs.Guards.{GuardsInDetail}
+use Rattle.acceptance.specs.Sources.{IsAcceptedSource, all_are_regular}
+use Rattle.source_laws.specs.Exact.{IsExactFor}
+
+-- an accepted source without irregular subscripts
+pub record IsRegularSource (u : PlainUnit) : Type 0 where
+  pub accepted : IsAcceptedSource u
+  pub regular : all_are_regular u.body ≡ true
+
+-- No signed value of an accepted source wraps, whatever subscripts it has.
+abbrev pub AcceptedAreExact : Type 0
+AcceptedAreExact = (u : PlainUnit) (ns : List ℤ) → IsAcceptedSource u → AreInRange u.ranges u.params ns → IsExactFor u ns
+
+-- Without irregular subscripts it is a source of the laws of runs.
+abbrev pub AcceptedAreSources : Type 0
+AcceptedAreSources = (u : PlainUnit) (i : PlainInputs) → IsRegularSource u → Fit u i → IsSourceFor u i.ints
+
+-- So its run within its arrays, however long, is that of its instances.
+abbrev pub AcceptedFollow : Type 0
+AcceptedFollow = (u : PlainUnit) (i : PlainInputs) → IsRegularSource u → Fit u i → IsClean u i → RunsThrough u i (run u i None)
+
+-- what the laws of instrumented units ask of a source, whatever its accesses are
+pub record HasForms (u : PlainUnit) (i : PlainInputs) : Type 0 where
+  pub source : IsSourceFor u i.ints
+  pub regular : IsRegular u i.ints
+  pub own_params : AreOwn (vars_of u.params i.ints)
+  pub countable : AreCountable (arrays_for u i.ints) (number_for u) u.body (vars_of u.params i.ints)
+  pub ranks : HaveRanks (arrays_with_extents u.params)
+  pub literals : (x : Word) → literal_of u.words x < 2 ^ 64
+  pub values : AllAssignWords u.body (vars_of u.params i.ints)
+
+-- It has them for all inputs that fit, whether it stays within its arrays or not.
+abbrev pub AcceptedHaveForms : Type 0
+AcceptedHaveForms = (u : PlainUnit) (i : PlainInputs) → IsRegularSource u → Fit u i → HasForms u i
+
+-- For sound inputs it is ready for its instrumented text.
+abbrev pub AcceptedAreReady : Type 0
+AcceptedAreReady = (u : PlainUnit) (i : PlainInputs) → IsRegularSource u → IsSound u i → IsReady u i
+
+-- Its instrumented unit is accepted as a printed unit, which the interpreter runs,
+abbrev pub AcceptedArePrinted : Type 0
+AcceptedArePrinted = (u : PlainUnit) → IsRegularSource u → IsAcceptedPrinted (guarded u)
+
+abbrev pub AcceptedAreRunnable : Type 0
+AcceptedAreRunnable = (u : PlainUnit) → IsRegularSource u → IsRunnable (guarded u)
+
+-- it runs alike under every fault, within its arrays or not, where it makes fewer than 2^63 accesses,
+abbrev pub AcceptedRunAlike : Type 0
+AcceptedRunAlike = (u : PlainUnit) (i : PlainInputs) (fault : Option Fault) → IsRegularSource u → Fit u i → length (accesses u i.ints (memory_for u i)) < 2 ^ 63 →
+    RunsAlike (run u i fault) (run (guarded u) i fault)
+
+-- and guards it.
+abbrev pub AcceptedAreGuarded : Type 0
+AcceptedAreGuarded = (u : PlainUnit) → IsRegularSource u → GuardsInDetail u (guarded u)
+
+-- ---- the one-loop form
+
+-- Each unit of the one-loop form is such a source.
+abbrev pub OneLoopIsAccepted : Type 0
+OneLoopIsAccepted = (u : PlainUnit) → IsOneLoop u → IsRegularSource u

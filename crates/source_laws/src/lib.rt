@@ -1,0 +1,83 @@
+//! Laws of accepted sources: they have all that the laws of runs, of instrumented texts and of counting passes ask.
+#![tactic(auto)]
+
+ghost use Rattle.acceptance.specs.Sources.{IsAcceptedSource, all_are_regular};
+ghost use Rattle.c_tree.specs.Inputs.{AreInRange};
+ghost use Rattle.source_laws.specs.Exact.{IsExactFor};
+ghost use Rattle.std.specs.Prelude.{◌≡◌, false, List, ℤ};
+ghost use Rattle.source_laws.specs.Laws.{AcceptedAreExact, AcceptedAreGuarded, AcceptedAreReady, AcceptedAreRunnable, AcceptedAreSources, AcceptedArePrinted, AcceptedFollow, AcceptedHaveForms, AcceptedRunAlike, OneLoopIsAccepted, IsRegularSource};
+ghost use Rattle.guard_laws.specs.Guards.{Guards};
+ghost use Rattle.instrumentation.specs.Guarded.{guarded};
+ghost use Rattle.acceptance.specs.WorkedSources.{gather, mix};
+
+/// Where the parameters lie in their ranges no signed value of an accepted source wraps, index cells or not: its extents and bounds, the sides of its tests, its subscripts and the signed operands of its casts are what they are as whole numbers, at all values that the loops around them have.
+pub fn accepted_sources_are_exact()
+    ensures { AcceptedAreExact }
+{}
+
+/// For inputs that fit an accepted source without irregular subscripts has what the laws of runs ask; so its run, where it stays within its arrays, is that of its instances.
+pub fn accepted_sources_follow()
+    ensures forms { AcceptedHaveForms }
+    ensures source { AcceptedAreSources }
+    ensures follow { AcceptedFollow }
+{
+    run_laws::sources_follow_their_memory();
+}
+
+/// For sound inputs such a source has whatever the laws of instrumented units ask of a source and of its pieces.
+pub fn accepted_sources_are_ready()
+    ensures { AcceptedAreReady }
+{
+    accepted_sources_follow();
+    pass_laws::passes_go_on();
+    pass_laws::passes_count();
+}
+
+/// The instrumented unit of such a source is accepted as a printed unit, and is one that the interpreter runs.
+pub fn accepted_sources_are_printed()
+    ensures printed { AcceptedArePrinted }
+    ensures runs { AcceptedAreRunnable }
+{
+    accepted_laws::accepted_source_is_regular();
+    accepted_laws::regular_is_accepted();
+}
+
+/// Under every fault it makes the source's accesses with the same values and ends as the source does, within its arrays or not.
+pub fn accepted_sources_run_alike()
+    ensures { AcceptedRunAlike }
+{
+    instrumentation_laws::every_unit_follows();
+    pass_laws::passes_count();
+}
+
+/// It guards the source: without a fault it ends balanced with the source's output, and it reports a fault exactly where the cell's next access is a read.
+pub fn accepted_sources_are_guarded()
+    ensures { AcceptedAreGuarded }
+{
+    guard_laws::ready_sources_are_guarded();
+    accepted_sources_are_ready();
+}
+
+/// Each unit of the one-loop form is accepted, and has no irregular subscript.
+pub fn one_loop_is_accepted()
+    ensures { OneLoopIsAccepted }
+{
+    accepted_laws::one_loop_is_regular();
+}
+
+/// A nest of two loops over three arrays is such a source, and is guarded.
+pub fn a_nest_is_guarded()
+    ensures accepted { IsRegularSource mix }
+    ensures guarded { Guards mix (guarded mix) }
+{
+    accepted_sources_are_guarded();
+}
+
+/// A source that reads through an index array is accepted, and no signed value of it wraps.
+pub fn a_gather_is_exact()
+    ensures accepted { IsAcceptedSource gather }
+    ensures irregular { all_are_regular gather.body ≡ false }
+    ensures exact { (ns : List ℤ) → AreInRange gather.ranges gather.params ns → IsExactFor gather ns }
+{
+    accepted_sources_are_exact();
+}
