@@ -1,40 +1,19 @@
--- Whether something was found, and the ends of intervals.
-use Rattle.std.proofs.Common.{◌≡◌, Bool, true, false, not, ◌&&◌, ◌||◌, List, [], ◌∷◌, pos, Option, Some, None, refl, ap, ◌∙◌}
+-- The intervals of loops, and the least ends of extents.
+use Rattle.std.proofs.Common.{◌≡◌, Bool, true, false, not, ◌&&◌, ◌||◌, List, [], ◌∷◌, pos, Some, None, refl, ap, ◌∙◌}
 use Rattle.std.specs.Prelude.{int_lt}
 use Rattle.std.specs.List.{list_all, list_any}
-use Rattle.c_tree.specs.Plain.{Word, PlainExpr, PlainUnit}
+use Rattle.c_tree.specs.Plain.{PlainExpr, PlainUnit}
 use Rattle.c_tree.specs.declared.expr.Rel.{Rel}
-use Rattle.acceptance.specs.Affine.{is_small, has_small, constant as the_constant, coefficient, holds_throughout, Interval, Intervals, interval, is_narrow}
+use Rattle.acceptance.specs.Affine.{holds_throughout, Interval, Intervals, interval, is_narrow}
 use Rattle.acceptance.specs.Head.{extents_in, intervals_of, extent_too_wide, extent_not_positive}
 use Rattle.acceptance.specs.Parts.{loop_interval}
-use Rattle.affine_checks.specs.Linear.{constant, has_small_constant, terms, narrow, begins_below_one, is_low}
-use Rattle.affine_checks.proofs.Terms.{where_true, narrow_is, constant_is, both_throughout, terms_are, other_holds}
-
-abbrev pub is_there : {A : Type 0} → Option A → Bool
-is_there (Some a) = true
-is_there None = false
-
-there : {A : Type 0} (b : Bool) (a : A) → is_there (where_true b a) ≡ b
-there true a = refl
-there false a = refl
-
-pub constant_there : (e : PlainExpr) → is_there (constant e) ≡ has_small_constant e
-constant_there e = ap is_there (constant_is e) ∙ there (has_small_constant e) (the_constant e)
-
-pub terms_there : (x : Word) (e : PlainExpr) → has_small_constant e ≡ true → is_there (terms x e) ≡ has_small x e
-terms_there x e h = ap is_there (terms_are x e) ∙ there (both_throughout x e) (the_constant e, coefficient x e)
-    ∙ other_holds (λ d. is_small (the_constant d)) (λ d. is_small (coefficient x d)) e h
-
-pub narrow_there : (rs : Intervals) (e : PlainExpr) → is_there (narrow rs e) ≡ holds_throughout (is_narrow rs) e
-narrow_there rs e = ap is_there (narrow_is rs e) ∙ there (holds_throughout (is_narrow rs) e) (interval rs e)
+use Rattle.affine_checks.specs.Linear.{narrow, begins_below_one, is_low}
+use Rattle.affine_checks.proofs.Found.{found_narrow}
 
 -- ---- the interval of a loop
 
 some_same : {A : Type 0} (a b : A) → Some a ≡ Some b → a ≡ b
 some_same a b e = cc
-
-found_narrow : (rs : Intervals) (e : PlainExpr) → holds_throughout (is_narrow rs) e ≡ true → narrow rs e ≡ Some (interval rs e)
-found_narrow rs e t = narrow_is rs e ∙ ap (λ b. where_true b (interval rs e)) t
 
 found_is : (rs : Intervals) (e : PlainExpr) (i : Interval) → Some i ≡ narrow rs e → holds_throughout (is_narrow rs) e ≡ true → i ≡ interval rs e
 found_is rs e i h t = some_same i (interval rs e) (h ∙ found_narrow rs e t)

@@ -33,14 +33,12 @@ kept_is false a = refl
 -- ---- intervals
 
 pub narrow_is : (rs : Intervals) (e : PlainExpr) → narrow rs e ≡ where_true (holds_throughout (is_narrow rs) e) (interval rs e)
-narrow_is rs (un op a) = one (holds_throughout (is_narrow rs) a) (is_narrow rs (un op a)) (interval rs a) (λ i. kept_interval (neg_ℤ i.1, neg_ℤ i.0)) (interval rs (un op a)) (narrow rs a) (narrow_is rs a)
-    (kept_is (is_narrow rs (un op a)) (interval rs (un op a)))
-narrow_is rs (bin op a b) = two (holds_throughout (is_narrow rs) a) (holds_throughout (is_narrow rs) b) (is_narrow rs (bin op a b)) (interval rs a) (interval rs b) (λ i j. kept_interval (interval_bin op i j)) (interval rs (bin op a b)) (narrow rs a) (narrow rs b)
-    (narrow_is rs a) (narrow_is rs b) (kept_is (is_narrow rs (bin op a b)) (interval rs (bin op a b)))
-narrow_is rs (least a b) = two (holds_throughout (is_narrow rs) a) (holds_throughout (is_narrow rs) b) (is_narrow rs (least a b)) (interval rs a) (interval rs b) (λ i j. kept_interval (int_min i.0 j.0, int_min i.1 j.1)) (interval rs (least a b)) (narrow rs a) (narrow rs b)
-    (narrow_is rs a) (narrow_is rs b) (kept_is (is_narrow rs (least a b)) (interval rs (least a b)))
-narrow_is rs (greatest a b) = two (holds_throughout (is_narrow rs) a) (holds_throughout (is_narrow rs) b) (is_narrow rs (greatest a b)) (interval rs a) (interval rs b) (λ i j. kept_interval (int_max i.0 j.0, int_max i.1 j.1)) (interval rs (greatest a b)) (narrow rs a) (narrow rs b)
-    (narrow_is rs a) (narrow_is rs b) (kept_is (is_narrow rs (greatest a b)) (interval rs (greatest a b)))
+narrow_is rs (un op a) = one _ (is_narrow rs (un op a)) _ (λ i. kept_interval (neg_ℤ i.1, neg_ℤ i.0)) _ _ (narrow_is rs a) (kept_is _ _)
+narrow_is rs (bin op a b) = two _ _ (is_narrow rs (bin op a b)) _ _ (λ i j. kept_interval (interval_bin op i j)) _ _ _ (narrow_is rs a) (narrow_is rs b) (kept_is _ _)
+narrow_is rs (least a b) =
+    two _ _ (is_narrow rs (least a b)) _ _ (λ i j. kept_interval (int_min i.0 j.0, int_min i.1 j.1)) _ _ _ (narrow_is rs a) (narrow_is rs b) (kept_is _ _)
+narrow_is rs (greatest a b) =
+    two _ _ (is_narrow rs (greatest a b)) _ _ (λ i j. kept_interval (int_max i.0 j.0, int_max i.1 j.1)) _ _ _ (narrow_is rs a) (narrow_is rs b) (kept_is _ _)
 narrow_is rs e = kept_is (is_narrow rs e) (interval rs e)
 
 -- ---- constants and coefficients
@@ -49,13 +47,10 @@ abbrev constant_fits : PlainExpr → Bool
 constant_fits e = is_small (the_constant e)
 
 pub constant_is : (e : PlainExpr) → constant e ≡ where_true (has_small_constant e) (the_constant e)
-constant_is (un op a) = one (has_small_constant a) (constant_fits (un op a)) (the_constant a) (λ k. kept_constant (neg_ℤ k)) (the_constant (un op a)) (constant a) (constant_is a) (kept_is (constant_fits (un op a)) (the_constant (un op a)))
-constant_is (bin op a b) = two (has_small_constant a) (has_small_constant b) (constant_fits (bin op a b)) (the_constant a) (the_constant b) (λ k l. kept_constant (constant_bin op k l)) (the_constant (bin op a b)) (constant a) (constant b)
-    (constant_is a) (constant_is b) (kept_is (constant_fits (bin op a b)) (the_constant (bin op a b)))
-constant_is (least a b) = two (has_small_constant a) (has_small_constant b) (constant_fits (least a b)) (the_constant a) (the_constant b) (λ k l. kept_constant (pos 0)) (the_constant (least a b)) (constant a) (constant b)
-    (constant_is a) (constant_is b) (kept_is (constant_fits (least a b)) (the_constant (least a b)))
-constant_is (greatest a b) = two (has_small_constant a) (has_small_constant b) (constant_fits (greatest a b)) (the_constant a) (the_constant b) (λ k l. kept_constant (pos 0)) (the_constant (greatest a b)) (constant a) (constant b)
-    (constant_is a) (constant_is b) (kept_is (constant_fits (greatest a b)) (the_constant (greatest a b)))
+constant_is (un op a) = one _ (constant_fits (un op a)) _ (λ k. kept_constant (neg_ℤ k)) _ _ (constant_is a) (kept_is _ _)
+constant_is (bin op a b) = two _ _ (constant_fits (bin op a b)) _ _ (λ k l. kept_constant (constant_bin op k l)) _ _ _ (constant_is a) (constant_is b) (kept_is _ _)
+constant_is (least a b) = two _ _ (constant_fits (least a b)) _ _ (λ k l. kept_constant (pos 0)) _ _ _ (constant_is a) (constant_is b) refl
+constant_is (greatest a b) = two _ _ (constant_fits (greatest a b)) _ _ (λ k l. kept_constant (pos 0)) _ _ _ (constant_is a) (constant_is b) refl
 constant_is e = kept_is (constant_fits e) (the_constant e)
 
 abbrev both_small : Word → PlainExpr → Bool
@@ -65,14 +60,12 @@ abbrev pub both_throughout : Word → PlainExpr → Bool
 both_throughout x = holds_throughout (λ e. is_small (the_constant e) && is_small (coefficient x e))
 
 pub terms_are : (x : Word) (e : PlainExpr) → terms x e ≡ where_true (both_throughout x e) (the_constant e, coefficient x e)
-terms_are x (un op a) = one (both_throughout x a) (both_small x (un op a)) (the_constant a, coefficient x a) (λ r. kept_terms (neg_ℤ r.0) (neg_ℤ r.1)) (the_constant (un op a), coefficient x (un op a)) (terms x a) (terms_are x a)
-    (kept_is (both_small x (un op a)) (the_constant (un op a), coefficient x (un op a)))
-terms_are x (bin op a b) = two (both_throughout x a) (both_throughout x b) (both_small x (bin op a b)) (the_constant a, coefficient x a) (the_constant b, coefficient x b) (λ r s. kept_terms (constant_bin op r.0 s.0) (coefficient_bin op r.0 r.1 s.0 s.1)) (the_constant (bin op a b), coefficient x (bin op a b)) (terms x a) (terms x b)
-    (terms_are x a) (terms_are x b) (kept_is (both_small x (bin op a b)) (the_constant (bin op a b), coefficient x (bin op a b)))
-terms_are x (least a b) = two (both_throughout x a) (both_throughout x b) (both_small x (least a b)) (the_constant a, coefficient x a) (the_constant b, coefficient x b) (λ r s. kept_terms (pos 0) (pos 0)) (the_constant (least a b), coefficient x (least a b)) (terms x a) (terms x b)
-    (terms_are x a) (terms_are x b) (kept_is (both_small x (least a b)) (the_constant (least a b), coefficient x (least a b)))
-terms_are x (greatest a b) = two (both_throughout x a) (both_throughout x b) (both_small x (greatest a b)) (the_constant a, coefficient x a) (the_constant b, coefficient x b) (λ r s. kept_terms (pos 0) (pos 0)) (the_constant (greatest a b), coefficient x (greatest a b)) (terms x a) (terms x b)
-    (terms_are x a) (terms_are x b) (kept_is (both_small x (greatest a b)) (the_constant (greatest a b), coefficient x (greatest a b)))
+terms_are x (un op a) = one _ (both_small x (un op a)) _ (λ r. kept_terms (neg_ℤ r.0) (neg_ℤ r.1)) _ _ (terms_are x a) (kept_is _ _)
+terms_are x (bin op a b) =
+    two _ _ (both_small x (bin op a b)) _ _ (λ r s. kept_terms (constant_bin op r.0 s.0) (coefficient_bin op r.0 r.1 s.0 s.1)) _ _ _
+    (terms_are x a) (terms_are x b) (kept_is _ _)
+terms_are x (least a b) = two _ _ (both_small x (least a b)) _ _ (λ r s. kept_terms (pos 0) (pos 0)) _ _ _ (terms_are x a) (terms_are x b) refl
+terms_are x (greatest a b) = two _ _ (both_small x (greatest a b)) _ _ (λ r s. kept_terms (pos 0) (pos 0)) _ _ _ (terms_are x a) (terms_are x b) refl
 terms_are x e = kept_is (both_small x e) (the_constant e, coefficient x e)
 
 -- ---- two tests throughout, where one holds

@@ -5,7 +5,7 @@ ghost use Rattle.std.specs.List.{list_all, list_any};
 ghost use Rattle.c_tree.specs.Trees.{exprs, param};
 ghost use Rattle.acceptance.specs.Head as spec;
 ghost use Rattle.scopes.specs.Scopes.{declared_in, scope_in};
-ghost use Rattle.affine_checks.specs.Demands.{meets};
+ghost use Rattle.affine_checks.specs.Demands.{meets as meets_demand};
 ghost use Rattle.affine_checks.specs.Linear as linear;
 ghost use Rattle.affine_checks.specs.Shown.{intervals_at};
 
@@ -18,7 +18,7 @@ use std::alloc::Global;
 
 #[tactic(auto, using(crate::proofs::Rows::appended))]
 fn params_meet(demand: Demand, sc: &Scope<'_>, params: &[Param]) -> bool
-    ensures { result ≡ list_all (meets demand (scope_in sc.now) (intervals_at sc.now)) (spec.extents_in (map param params.now)) }
+    ensures { result ≡ list_all (meets_demand demand (scope_in sc.now) (intervals_at sc.now)) (spec.extents_in (map param params.now)) }
 {
     for p in params {
         if let Param::Array { extents, .. } = p {
@@ -32,7 +32,7 @@ fn params_meet(demand: Demand, sc: &Scope<'_>, params: &[Param]) -> bool
 
 fn extents_meet(alloc: Global, demand: Demand, declared: &Declared<'_>) -> bool
     ensures { let u = declared_in declared.now in
-        result ≡ list_all (meets demand (spec.head_scope u) (spec.intervals_of u)) (spec.extents_in u.params) }
+        result ≡ list_all (meets_demand demand (spec.head_scope u) (spec.intervals_of u)) (spec.extents_in u.params) }
 {
     let tables: NameSet<'static> = NameSet::new(alloc);
     let around = Around::Nothing;

@@ -8,7 +8,7 @@ ghost use Rattle.acceptance.specs.Parts as spec;
 ghost use Rattle.acceptance.specs.Sources as sources;
 ghost use Rattle.scopes.specs.Intervals.{interval_in};
 ghost use Rattle.scopes.specs.Scopes.{declared_in, kept_intervals, scope_in};
-ghost use Rattle.affine_checks.specs.Demands.{meets};
+ghost use Rattle.affine_checks.specs.Demands.{meets as meets_demand};
 ghost use Rattle.affine_checks.specs.Shown.{intervals_at};
 
 use crate::affine::is_data;
@@ -19,7 +19,7 @@ use c_tree::{Expr, Rel, Stmt};
 use scopes::{Interval, Scope};
 
 fn item_meets(demand: Demand, sc: &Scope<'_>, s: &Stmt) -> bool
-    ensures { result ≡ spec.item_parts_hold (meets demand (scope_in sc.now) (intervals_at sc.now)) (scope_in sc.now) (stmt s.now) }
+    ensures { result ≡ spec.item_parts_hold (meets_demand demand (scope_in sc.now) (intervals_at sc.now)) (scope_in sc.now) (stmt s.now) }
 {
     match s {
         Stmt::For { lo, hi, .. } => meets(demand, sc, lo) && meets(demand, sc, hi),

@@ -1,7 +1,7 @@
 use Rattle.std.proofs.Common.{ap, ◌∙◌}
 use Rattle.c_tree.specs.Trees.{expr}
 use Rattle.affine_checks.specs.Shown.{intervals_at}
-use Rattle.affine_checks.proofs.Ends.{is_there, narrow_there}
+use Rattle.affine_checks.proofs.Found.{is_there, narrow_there}
 use Rattle.affine_checks.proofs.narrow.is_narrow.Goals as goal
 
 pub returns-in-Some : goal.returns-in-Some

@@ -1,6 +1,6 @@
 use Rattle.std.proofs.Common.{ap, ◌∙◌}
 use Rattle.c_tree.specs.Trees.{expr}
-use Rattle.affine_checks.proofs.Ends.{is_there, terms_there}
+use Rattle.affine_checks.proofs.Found.{is_there, terms_there}
 use Rattle.affine_checks.proofs.small.has_small.Goals as goal
 
 pub returns-in-Some : goal.returns-in-Some
