@@ -1,0 +1,4 @@
+pub mod Rows
+pub mod Terms
+pub mod Found
+pub mod Ends

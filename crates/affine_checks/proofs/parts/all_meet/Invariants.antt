@@ -1,0 +1,11 @@
+use Rattle.std.proofs.Common.{◌≡◌, drop}
+use Rattle.std.specs.List.{list_all}
+use Rattle.c_tree.specs.Trees.{exprs}
+use Rattle.acceptance.specs.Head.{list_of}
+use Rattle.scopes.specs.Scopes.{scope_in}
+use Rattle.affine_checks.specs.Demands.{meets}
+use Rattle.affine_checks.specs.Shown.{intervals_at}
+use Rattle.affine_checks.proofs.parts.all_meet.Given as goal
+
+abbrev pub invariant-loop-e : goal.invariant-loop-e
+invariant-loop-e l = let p = meets l.demand (scope_in l.sc) (intervals_at l.sc) in list_all p (list_of (exprs l.e-items)) ≡ list_all p (list_of (exprs (drop l.e-index l.e-items)))
