@@ -1,3 +1,4 @@
 pub mod Conditions
 pub mod Items
+pub mod Judging
 pub mod Scans

@@ -1,20 +1,16 @@
 //! The conditions of an item, by the refusals that they are for.
 
-ghost use Rattle.std.specs.Prelude.{◌≡◌, IfOk, true};
-ghost use Rattle.c_tree.specs.Trees.{expr, stmt};
-ghost use Rattle.acceptance.specs.Affine.{holds_throughout, interval, is_narrow};
-ghost use Rattle.acceptance.specs.Head.{intervals_of};
-ghost use Rattle.acceptance.specs.Parts.{loop_interval};
-ghost use Rattle.kernel_check.specs.Conditions.{excess};
+ghost use Rattle.std.specs.Prelude.{◌≡◌, IfOk};
+ghost use Rattle.c_tree.specs.Trees.{stmt};
+ghost use Rattle.kernel_check.specs.Conditions.{condition, excess};
 ghost use Rattle.kernel_check.specs.Items.{item_in};
-ghost use Rattle.scopes.specs.Intervals.{interval_in};
-ghost use Rattle.scopes.specs.Scopes.{declared_in, kept_intervals};
+ghost use Rattle.scopes.specs.Scopes.{declared_in};
 
-use c_tree::{Expr, OutOfMemory, Rel, Stmt};
-use scopes::{Interval, Scope};
+use c_tree::{OutOfMemory, Stmt};
+use scopes::{Declared, Scope};
 use std::alloc::Global;
 
-/// A condition that may hold at an item.
+/// A condition that may hold at the head or at an item.
 #[derive(Clone, Copy, PartialEq, Eq)]
 pub enum Check {
     NameTwice,
@@ -25,12 +21,26 @@ pub enum Check {
     NotAffine,
     CoefficientTooLarge,
     IntervalTooWide,
+    ExtentNotAffine,
+    ExtentTermsTooLarge,
+    ExtentTooWide,
     WrongDimensions,
     WriteToConst,
     BadIndexArray,
     BadLiteral,
     IrregularWrite,
     WrongKind,
+}
+
+/// Whether the condition holds at the head.
+pub fn holds_at_head(
+    _alloc: Global,
+    check: Check,
+    declared: &Declared<'_>,
+) -> Result<bool, OutOfMemory>
+    ensures { IfOk result (λ found. found ≡ (condition check (declared_in declared.now)).head) }
+{
+    Err(OutOfMemory)
 }
 
 /// What there is too much of at an item, or 0, where the condition holds there.
@@ -41,14 +51,6 @@ pub fn excess_of(
     s: &Stmt,
 ) -> Result<Option<u64>, OutOfMemory>
     ensures { IfOk result (λ found. found ≡ excess check (declared_in sc.now.declared.now) (item_in sc.now (stmt s.now))) }
-{
-    Err(OutOfMemory)
-}
-
-pub fn interval_of_loop(sc: &Scope<'_, '_>, lo: &Expr, rel: Rel, hi: &Expr) -> Result<Interval, OutOfMemory>
-    ensures { IfOk result (λ i. let rs = kept_intervals (intervals_of (declared_in sc.now.declared.now)) sc.now.around.now in
-        holds_throughout (is_narrow rs) (expr lo.now) ≡ true → holds_throughout (is_narrow rs) (expr hi.now) ≡ true
-        → interval_in i ≡ loop_interval (interval rs (expr lo.now)) rel (interval rs (expr hi.now))) }
 {
     Err(OutOfMemory)
 }

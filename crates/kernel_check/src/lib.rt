@@ -3,5 +3,6 @@
 
 mod conditions;
 mod count;
+mod refusing;
 mod top;
 mod walk;

@@ -8,7 +8,8 @@ ghost use Rattle.kernel_check.specs.Items.{item_in, inner, inner_all, are_flat};
 ghost use Rattle.kernel_check.specs.Scans.{IsMet, Walked};
 ghost use Rattle.scopes.specs.Scopes.{declared_in, loops_in};
 
-use crate::conditions::{Check, excess_of, interval_of_loop};
+use crate::conditions::{Check, excess_of};
+use affine_checks::interval_of_loop;
 use c_tree::{OutOfMemory, Stmt, Stmts};
 use scopes::{Around, Declared, NameSet, Scope};
 use std::alloc::Global;
@@ -63,7 +64,7 @@ pub fn first_in<'x, 'n>(
         Stmt::Begin => Ok(at),
         Stmt::For { var, lo, rel, hi, body } => {
             met_at(alloc, check, sc, s, at)?;
-            let interval = interval_of_loop(sc, lo, *rel, hi)?;
+            let interval = interval_of_loop(sc, lo, *rel, hi);
             let around = Around::Within(var, lo, *rel, hi, interval, sc.around);
             let inner = Scope {
                 declared: sc.declared,

@@ -16,8 +16,8 @@ first_in-returns-in_err-next-in-If t c =
         c.after-in-If.ensures c.in_ok-met_at-in-If.ensures (tests c.in-If.tests) (stmts c.in-If.then) (stmts c.in-If.other)
         (stmt_if c.args.s.now c.in-If.tests c.in-If.then c.in-If.other c.in-If.is) c.in_err-next-in-If.field-0.0 c.in_err-next-in-If.ensures)
 
-pub first_in-returns-in_ok-interval-in-For : goal.first_in-returns-in_ok-interval-in-For
-first_in-returns-in_ok-interval-in-For t c =
+pub first_in-returns-in_ok-met_at-in-For : goal.first_in-returns-in_ok-met_at-in-For
+first_in-returns-in_ok-met_at-in-For t c =
     for_walked (excess c.args.check (declared_in c.args.sc.now.declared.now)) c.args.at _ (stmt c.args.s.now) (loops_in c.args.sc.now.around.now) c.args.sc.now.tables.now
         c.after.ensures c.in_ok-met_at-in-For.ensures c.in-For.var.bytes (expr c.in-For.lo) c.in-For.rel (expr c.in-For.hi) (stmts c.in-For.body)
         (stmt_for c.args.s.now c.in-For.var c.in-For.lo c.in-For.rel c.in-For.hi c.in-For.body c.in-For.is) c.first_in_all.result c.first_in_all.ensures

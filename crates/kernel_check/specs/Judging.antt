@@ -1,0 +1,65 @@
+-- The refusal that a call answers, by its number and its item.
+use Rattle.std.specs.Prelude.{◌≡◌, ◌⊎◌, ℕ, Bool, if◌then◌else◌, List, [], ◌∷◌, Result, Ok, Err, Option, Some, None}
+use Rattle.c_tree.specs.Plain.{PlainUnit}
+use Rattle.c_tree.specs.declared.refusal.Refusal.{Refusal}
+use Rattle.c_tree.specs.declared.refusal.Refusal.TheVariants as r
+use Rattle.acceptance.specs.Items.{Condition, least_item, lowest}
+use Rattle.acceptance.specs.Limits.{too_many}
+
+abbrev pub number_of : Refusal → ℕ
+number_of r.Unbuilt = 0
+number_of (r.TextTooLong length) = 1
+number_of (r.Lexical byte) = 2
+number_of (r.Syntax byte) = 3
+number_of (r.NameTwice item) = 4
+number_of (r.NameUnknown item) = 5
+number_of (r.ReservedName item) = 6
+number_of (r.BadRange item) = 7
+number_of (r.TooMany counted count item) = 8
+number_of (r.NotAffine item) = 9
+number_of (r.CoefficientTooLarge item) = 10
+number_of (r.IntervalTooWide item) = 11
+number_of (r.ExtentNotPositive item) = 12
+number_of (r.WrongDimensions item) = 13
+number_of (r.WriteToConst item) = 14
+number_of (r.BadIndexArray item) = 15
+number_of (r.BadLiteral item) = 16
+number_of (r.IrregularWrite item) = 17
+number_of (r.WrongKind item) = 18
+number_of r.OutOfMemory = 0
+
+-- the item that a refusal carries
+abbrev pub item_of : Refusal → Option ℕ
+item_of (r.NameTwice item) = Some item
+item_of (r.NameUnknown item) = Some item
+item_of (r.ReservedName item) = Some item
+item_of (r.BadRange item) = Some item
+item_of (r.TooMany counted count item) = Some item
+item_of (r.NotAffine item) = Some item
+item_of (r.CoefficientTooLarge item) = Some item
+item_of (r.IntervalTooWide item) = Some item
+item_of (r.ExtentNotPositive item) = Some item
+item_of (r.WrongDimensions item) = Some item
+item_of (r.WriteToConst item) = Some item
+item_of (r.BadIndexArray item) = Some item
+item_of (r.BadLiteral item) = Some item
+item_of (r.IrregularWrite item) = Some item
+item_of (r.WrongKind item) = Some item
+item_of _ = None
+
+-- the count that a refusal carries is the one that is over its limit
+abbrev pub CarriesCount : PlainUnit → Refusal → Type 0
+CarriesCount u (r.TooMany counted count item) = too_many u ≡ Some (record { counted = counted; count = count; item = item })
+CarriesCount u _ = Unit {0}
+
+-- The refusal is the lowest number of these that holds anywhere, with the least item at which it does.
+pub record IsLowest (u : PlainUnit) (judged : List (ℕ × Option ℕ)) (why : Refusal) : Type 0 where
+  pub item : ℕ
+  pub carried : item_of why ≡ Some item
+  pub lowest_is : lowest judged ≡ Some (number_of why, item)
+  pub counted : CarriesCount u why
+
+-- Nothing is refused where none of these numbers holds; else the lowest is, unless memory runs out.
+abbrev pub IsJudged : PlainUnit → List (ℕ × Option ℕ) → Result (Unit {0}) Refusal → Type 0
+IsJudged u judged (Ok done) = lowest judged ≡ None
+IsJudged u judged (Err why) = (why ≡ r.OutOfMemory) ⊎ IsLowest u judged why
