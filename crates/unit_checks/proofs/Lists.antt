@@ -1,0 +1,31 @@
+-- Lists of names and of extents.
+use Rattle.std.proofs.Common.{◌≡◌, refl, ap, sym, ◌∙◌, ◌||◌, Bool, true, false, List, [], ◌∷◌, map, length, ℕ, suc, bytes_eq}
+use Rattle.c_tree.specs.Names.{is_among}
+use Rattle.c_tree.specs.Plain.{Word, PlainExpr, int_param}
+use Rattle.c_tree.specs.Trees.{expr, exprs_of}
+use Rattle.c_tree.specs.declared.expr.Expr.{Expr}
+use Rattle.acceptance.specs.Items.{is_param, is_known}
+use Rattle.acceptance.specs.Head.{list_of, ints_scope}
+
+listed : (es : List PlainExpr) → length (list_of (exprs_of es)) ≡ length es
+listed [] = refl
+listed (e ∷ es) = ap suc (listed es)
+
+mapped : (es : List Expr) → length (map expr es) ≡ length es
+mapped [] = refl
+mapped (e ∷ es) = ap suc (mapped es)
+
+pub counted : (es : List Expr) → length (list_of (exprs_of (map expr es))) ≡ length es
+counted es = listed (map expr es) ∙ mapped es
+
+or_false : (b : Bool) → (b || false) ≡ b
+or_false true = refl
+or_false false = refl
+
+ints : (ws : List Word) (x : Word) → is_param (map int_param ws) x ≡ is_among ws x
+ints [] x = refl
+ints (w ∷ ws) x = ap (λ (b : Bool). bytes_eq w x || b) (ints ws x)
+
+-- in an extent the parameters before it are known
+pub known_before : (ws : List Word) (x : Word) → is_known (ints_scope (map int_param ws)) x ≡ is_among ws x
+known_before ws x = or_false (is_param (map int_param ws) x) ∙ ints ws x
