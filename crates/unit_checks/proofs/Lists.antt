@@ -6,6 +6,7 @@ use Rattle.c_tree.specs.Trees.{expr, exprs_of}
 use Rattle.c_tree.specs.declared.expr.Expr.{Expr}
 use Rattle.acceptance.specs.Items.{is_param, is_known}
 use Rattle.acceptance.specs.Head.{list_of, ints_scope}
+use Rattle.unit_checks.proofs.Booleans.{or_false}
 
 listed : (es : List PlainExpr) → length (list_of (exprs_of es)) ≡ length es
 listed [] = refl
@@ -17,10 +18,6 @@ mapped (e ∷ es) = ap suc (mapped es)
 
 pub counted : (es : List Expr) → length (list_of (exprs_of (map expr es))) ≡ length es
 counted es = listed (map expr es) ∙ mapped es
-
-or_false : (b : Bool) → (b || false) ≡ b
-or_false true = refl
-or_false false = refl
 
 ints : (ws : List Word) (x : Word) → is_param (map int_param ws) x ≡ is_among ws x
 ints [] x = refl

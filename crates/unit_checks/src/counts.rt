@@ -4,11 +4,11 @@ ghost use Rattle.std.specs.Prelude.{◌≡◌, length, ◌+◌, min, ◌-◌, �
 ghost use Rattle.c_tree.specs.Instances.{sites, sites_all};
 ghost use Rattle.c_tree.specs.Trees.{expr, exprs, stmt, stmts};
 ghost use Rattle.acceptance.specs.Limits as limits;
-ghost use Rattle.scopes.specs.Scopes.{loops_in, scope_in};
+ghost use Rattle.scopes.specs.Scopes.{declared_in, loops_in, scope_in};
 ghost use Rattle.unit_checks.specs.Counts.{saturated};
 
-use c_tree::{BinOp, Expr, Exprs, Stmt, Stmts};
-use scopes::{Around, Scope};
+use c_tree::{BinOp, Expr, Exprs, Param, Stmt, Stmts};
+use scopes::{Around, Declared, Scope};
 
 fn plus(a: u64, b: u64) -> u64
     ensures { result ≡ saturated (a + b) }
@@ -112,6 +112,32 @@ pub fn assignments_in(body: &Stmts) -> u64
     let mut count = 0;
     for s in body.as_slice() {
         count = plus(count, sites_in(s));
+    }
+    count
+}
+
+/// How many `int64_t` parameters a unit has.
+pub fn int_count(declared: &Declared<'_>) -> u64
+    ensures { result ≡ limits.int_count (declared_in declared.now).params }
+{
+    let mut count = 0;
+    for p in declared.unit.params.as_slice() {
+        if let Param::Int(_) = p {
+            count += 1;
+        }
+    }
+    count
+}
+
+/// How many arrays a unit has.
+pub fn array_count(declared: &Declared<'_>) -> u64
+    ensures { result ≡ limits.array_count (declared_in declared.now).params }
+{
+    let mut count = 0;
+    for p in declared.unit.params.as_slice() {
+        if let Param::Array { .. } = p {
+            count += 1;
+        }
     }
     count
 }
