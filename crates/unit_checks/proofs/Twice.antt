@@ -1,5 +1,5 @@
 -- Two names of a head are the same where one of the list of all names stands behind itself.
-use Rattle.std.proofs.Common.{◌≡◌, refl, ap, sym, ◌∙◌, ◌||◌, ◌<◌, ◌≤◌, ◌-◌, Bool, true, false, if◌then◌else◌, List, [], ◌∷◌, ◌++◌, map, length, drop, drop-cons, get_or, ℕ, zero, suc, bytes_eq, Bor, Option, None, Some, arith}
+use Rattle.std.proofs.Common.{◌≡◌, refl, ap, sym, ◌∙◌, ◌||◌, ◌<◌, ◌≤◌, ◌-◌, Bool, true, false, if◌then◌else◌, List, [], ◌∷◌, ◌++◌, map, length, drop, drop-cons, get_or, ℕ, zero, suc, bytes_eq, Bor, None, Some, arith}
 use Rattle.c_tree.specs.Names.{is_among}
 use Rattle.c_tree.specs.Plain.{Word, PlainParam, PlainUnit}
 use Rattle.c_tree.specs.declared.name.Name.{Name}

@@ -4,6 +4,7 @@
 mod counts;
 mod dimensions;
 mod index_arrays;
+mod kinds;
 mod known;
 mod literals;
 mod name_lists;
@@ -12,6 +13,7 @@ mod ranges;
 mod reserved_names;
 mod targets;
 mod totals;
+mod wrong_kinds;
 
 pub use counts::{array_count, assignments_in, int_count, loop_depth, reads_in};
 pub use dimensions::has_wrong_dimensions;
@@ -22,3 +24,4 @@ pub use names_twice::{has_name_twice, head_has_name_twice};
 pub use ranges::head_has_bad_range;
 pub use reserved_names::{has_reserved_name, head_has_reserved_name};
 pub use targets::{has_irregular_write, writes_to_const};
+pub use wrong_kinds::{has_wrong_kind, head_has_wrong_kind};

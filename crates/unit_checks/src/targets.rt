@@ -55,10 +55,10 @@ pub fn has_irregular_write(s: &Stmt) -> bool
     ensures { result ≡ not (sources.writes_regular (stmt s.now)) }
 {
     match s {
-        Stmt::Assign { target, .. } => match target {
-            Expr::Cell(_, at) => !are_regular(at),
-            _ => false,
-        },
+        Stmt::Assign {
+            target: Expr::Cell(_, at),
+            ..
+        } => !are_regular(at),
         _ => false,
     }
 }

@@ -1,4 +1,4 @@
-use Rattle.std.proofs.Common.{ap, sym, ◌∙◌, rules}
+use Rattle.std.proofs.Common.{sym, ◌∙◌}
 use Rattle.unit_checks.proofs.Lists.{known_before}
 use Rattle.unit_checks.proofs.known.is_known.Goals as goal
 

@@ -1,4 +1,3 @@
-use Rattle.std.proofs.Common.{sym, ◌∙◌}
 use Rattle.scopes.specs.Scopes.{declared_in}
 use Rattle.unit_checks.proofs.RangeLines.{bad_is}
 use Rattle.unit_checks.proofs.ranges.head_has_bad_range.Goals as goal
