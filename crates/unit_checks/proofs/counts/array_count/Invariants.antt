@@ -1,0 +1,10 @@
+use Rattle.std.proofs.Common.{◌≡◌, ◌≤◌, ◌+◌, map, drop}
+use Rattle.c_tree.specs.Trees.{param}
+use Rattle.acceptance.specs.Limits.{array_count}
+use Rattle.unit_checks.proofs.counts.array_count.Given as goal
+
+abbrev pub invariant-loop-p : goal.invariant-loop-p
+invariant-loop-p l = record {
+  fits : l.count ≤ l.p-index;
+  rest : l.count + array_count (map param (drop l.p-index l.p-items)) ≡ array_count (map param l.p-items);
+}
