@@ -26,7 +26,7 @@ fn loops_around(around: &Around<'_>) -> u64
 }
 
 /// How deep a loop stands, itself with those around it; 0 for another item.
-pub fn loop_depth(sc: &Scope<'_>, s: &Stmt) -> u64
+pub fn loop_depth(sc: &Scope<'_, '_>, s: &Stmt) -> u64
     ensures { result ≡ saturated (limits.depth (record { stmt = stmt s.now; loops = (scope_in sc.now).loops; tables = (scope_in sc.now).tables })) }
 {
     match s {

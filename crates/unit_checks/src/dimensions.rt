@@ -14,14 +14,14 @@ use scopes::Scope;
 use std::alloc::Global;
 
 /// Whether a name takes so many subscripts.
-fn takes(sc: &Scope<'_>, x: &Name, at: &Exprs) -> bool
+fn takes(sc: &Scope<'_, '_>, x: &Name, at: &Exprs) -> bool
     ensures { result ≡ nat_eq (printed.dimensions (scope_in sc.now) x.now.bytes) (length (list_of (exprs at.now))) }
 {
     sc.dimensions(x) == at.len()
 }
 
 #[cycle(fits)]
-fn fits(sc: &Scope<'_>, e: &Expr) -> bool
+fn fits(sc: &Scope<'_, '_>, e: &Expr) -> bool
     ensures { result ≡ printed.fits_dimensions (printed.dimensions (scope_in sc.now)) (expr e.now) }
 {
     match e {
@@ -42,7 +42,7 @@ fn fits(sc: &Scope<'_>, e: &Expr) -> bool
 }
 
 #[cycle(fits)]
-fn all_fit(sc: &Scope<'_>, es: &Exprs) -> bool
+fn all_fit(sc: &Scope<'_, '_>, es: &Exprs) -> bool
     ensures { result ≡ printed.all_fit_dimensions (printed.dimensions (scope_in sc.now)) (exprs es.now) }
 {
     for e in es.as_slice() {
@@ -53,7 +53,7 @@ fn all_fit(sc: &Scope<'_>, es: &Exprs) -> bool
     true
 }
 
-fn tests_fit(sc: &Scope<'_>, ts: &Tests) -> bool
+fn tests_fit(sc: &Scope<'_, '_>, ts: &Tests) -> bool
     ensures { result ≡ printed.tests_fit (printed.fits_dimensions (printed.dimensions (scope_in sc.now))) (tests ts.now) }
 {
     for (_, a, b) in ts.as_slice() {
@@ -64,7 +64,7 @@ fn tests_fit(sc: &Scope<'_>, ts: &Tests) -> bool
     true
 }
 
-fn exprs_fit(sc: &Scope<'_>, s: &Stmt) -> bool
+fn exprs_fit(sc: &Scope<'_, '_>, s: &Stmt) -> bool
     ensures { result ≡ printed.exprs_fit (printed.fits_dimensions (printed.dimensions (scope_in sc.now))) (stmt s.now) }
 {
     match s {
@@ -78,7 +78,7 @@ fn exprs_fit(sc: &Scope<'_>, s: &Stmt) -> bool
     }
 }
 
-fn are_bare(sc: &Scope<'_>, names: &[Name]) -> bool
+fn are_bare(sc: &Scope<'_, '_>, names: &[Name]) -> bool
     ensures { result ≡ list_all (λ x. nat_eq (printed.dimensions (scope_in sc.now) x) 0) (words names.now) }
 {
     for name in names {
@@ -89,7 +89,7 @@ fn are_bare(sc: &Scope<'_>, names: &[Name]) -> bool
     true
 }
 
-fn names_fit(alloc: Global, sc: &Scope<'_>, s: &Stmt) -> Result<bool, OutOfMemory>
+fn names_fit(alloc: Global, sc: &Scope<'_, '_>, s: &Stmt) -> Result<bool, OutOfMemory>
     ensures { IfOk result (λ fit. fit ≡ printed.names_fit (scope_in sc.now) (stmt s.now)) }
 {
     match s {
@@ -107,7 +107,7 @@ fn names_fit(alloc: Global, sc: &Scope<'_>, s: &Stmt) -> Result<bool, OutOfMemor
 }
 
 /// Whether a name stands in an item with another number of subscripts than it takes.
-pub fn has_wrong_dimensions(alloc: Global, sc: &Scope<'_>, s: &Stmt) -> Result<bool, OutOfMemory>
+pub fn has_wrong_dimensions(alloc: Global, sc: &Scope<'_, '_>, s: &Stmt) -> Result<bool, OutOfMemory>
     ensures { IfOk result (λ found. found ≡ not (printed.exprs_fit (printed.fits_dimensions (printed.dimensions (scope_in sc.now))) (stmt s.now) && printed.names_fit (scope_in sc.now) (stmt s.now))) }
 {
     Ok(!(names_fit(alloc, sc, s)? && exprs_fit(sc, s)))

@@ -11,7 +11,7 @@ use c_tree::{Expr, Exprs, Name, Stmt};
 use scopes::Scope;
 
 /// Whether this may be a subscript of an array: a cell only of another array that is `const`.
-fn is_indexed(sc: &Scope<'_>, x: &Name, e: &Expr) -> bool
+fn is_indexed(sc: &Scope<'_, '_>, x: &Name, e: &Expr) -> bool
     ensures { result ≡ sources.are_indexed (scope_in sc.now).params x.now.bytes (more_exprs (expr e.now) no_exprs) }
 {
     match e {
@@ -20,7 +20,7 @@ fn is_indexed(sc: &Scope<'_>, x: &Name, e: &Expr) -> bool
     }
 }
 
-fn are_indexed(sc: &Scope<'_>, x: &Name, es: &Exprs) -> bool
+fn are_indexed(sc: &Scope<'_, '_>, x: &Name, es: &Exprs) -> bool
     ensures { result ≡ sources.are_indexed (scope_in sc.now).params x.now.bytes (exprs es.now) }
 {
     for e in es.as_slice() {
@@ -31,7 +31,7 @@ fn are_indexed(sc: &Scope<'_>, x: &Name, es: &Exprs) -> bool
     true
 }
 
-fn cells_indexed(sc: &Scope<'_>, e: &Expr) -> bool
+fn cells_indexed(sc: &Scope<'_, '_>, e: &Expr) -> bool
     ensures { result ≡ parts.cells_hold (sources.are_indexed (scope_in sc.now).params) (expr e.now) }
 {
     match e {
@@ -52,7 +52,7 @@ fn cells_indexed(sc: &Scope<'_>, e: &Expr) -> bool
 }
 
 /// Whether an assignment has a cell among the subscripts of an array whose own array is not `const` or is the same one.
-pub fn has_bad_index_array(sc: &Scope<'_>, s: &Stmt) -> bool
+pub fn has_bad_index_array(sc: &Scope<'_, '_>, s: &Stmt) -> bool
     ensures { result ≡ not (sources.assigned_cells_hold (sources.are_indexed (scope_in sc.now).params) (stmt s.now)) }
 {
     match s {

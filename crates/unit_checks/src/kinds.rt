@@ -14,12 +14,12 @@ use scopes::{Declared, Scope};
 
 /// Where an expression stands.
 #[derive(Clone, Copy)]
-pub enum Place<'a> {
-    Item(&'a Scope<'a>),
-    Head(&'a Declared<'a>),
+pub enum Place<'a, 'n> {
+    Item(&'a Scope<'a, 'n>),
+    Head(&'a Declared<'n>),
 }
 
-fn is_signed_name(place: Place<'_>, x: &Name) -> bool
+fn is_signed_name(place: Place<'_, '_>, x: &Name) -> bool
     ensures { result ≡ items.is_signed_name (names_in place.entry) x.now.bytes }
 {
     match place {
@@ -49,7 +49,7 @@ fn is_signed_un(op: UnOp) -> bool
 }
 
 /// Whether an expression is signed; in a bound it may be the lesser or the greater of two.
-pub fn is_signed_expr(place: Place<'_>, bound: bool, e: &Expr) -> bool
+pub fn is_signed_expr(place: Place<'_, '_>, bound: bool, e: &Expr) -> bool
     ensures { result ≡ printed.is_signed_expr (names_in place.entry) bound (expr e.now) }
 {
     match e {
@@ -70,14 +70,14 @@ pub fn is_signed_expr(place: Place<'_>, bound: bool, e: &Expr) -> bool
 }
 
 /// Whether an expression of an item is signed.
-pub fn is_signed(sc: &Scope<'_>, bound: bool, e: &Expr) -> bool
+pub fn is_signed(sc: &Scope<'_, '_>, bound: bool, e: &Expr) -> bool
     ensures { result ≡ printed.is_signed_expr (scope_in sc.now) bound (expr e.now) }
 {
     let place = Place::Item(sc);
     is_signed_expr(place, bound, e)
 }
 
-fn kind_of(sc: &Scope<'_>, e: &Expr) -> Kind
+fn kind_of(sc: &Scope<'_, '_>, e: &Expr) -> Kind
     ensures { kind_shown result ≡ printed.kind_of (scope_in sc.now) (expr e.now) }
 {
     match e {
@@ -122,7 +122,7 @@ fn is_word_kind(kind: Kind) -> bool
 }
 
 #[cycle(reads)]
-fn reads_no_array(sc: &Scope<'_>, e: &Expr) -> bool
+fn reads_no_array(sc: &Scope<'_, '_>, e: &Expr) -> bool
     ensures { result ≡ printed.reads_no_array (scope_in sc.now) (expr e.now) }
 {
     match e {
@@ -143,7 +143,7 @@ fn reads_no_array(sc: &Scope<'_>, e: &Expr) -> bool
 }
 
 #[cycle(reads)]
-fn all_read_no_array(sc: &Scope<'_>, es: &Exprs) -> bool
+fn all_read_no_array(sc: &Scope<'_, '_>, es: &Exprs) -> bool
     ensures { result ≡ printed.all_read_no_array (scope_in sc.now) (exprs es.now) }
 {
     for e in es.as_slice() {
@@ -156,7 +156,7 @@ fn all_read_no_array(sc: &Scope<'_>, es: &Exprs) -> bool
 
 /// Whether an expression is one of words.
 #[cycle(word)]
-pub fn is_word_expr(sc: &Scope<'_>, e: &Expr) -> bool
+pub fn is_word_expr(sc: &Scope<'_, '_>, e: &Expr) -> bool
     ensures { result ≡ printed.is_word_expr (scope_in sc.now) (expr e.now) }
 {
     match e {
@@ -182,7 +182,7 @@ pub fn is_word_expr(sc: &Scope<'_>, e: &Expr) -> bool
 
 /// Under a cast.
 #[cycle(word)]
-fn is_signed_or_word(sc: &Scope<'_>, e: &Expr) -> bool
+fn is_signed_or_word(sc: &Scope<'_, '_>, e: &Expr) -> bool
     ensures { result ≡ signed_or_word (scope_in sc.now) (expr e.now) }
 {
     if is_signed_kind(kind_of(sc, e)) {
@@ -193,7 +193,7 @@ fn is_signed_or_word(sc: &Scope<'_>, e: &Expr) -> bool
 }
 
 #[cycle(word)]
-fn is_subscript(sc: &Scope<'_>, e: &Expr) -> bool
+fn is_subscript(sc: &Scope<'_, '_>, e: &Expr) -> bool
     ensures { result ≡ a_subscript (scope_in sc.now) (expr e.now) }
 {
     if is_word_kind(kind_of(sc, e)) {
@@ -204,7 +204,7 @@ fn is_subscript(sc: &Scope<'_>, e: &Expr) -> bool
 }
 
 #[cycle(word)]
-fn are_subscripts(sc: &Scope<'_>, es: &Exprs) -> bool
+fn are_subscripts(sc: &Scope<'_, '_>, es: &Exprs) -> bool
     ensures { result ≡ printed.are_subscripts (scope_in sc.now) (exprs es.now) }
 {
     for e in es.as_slice() {
@@ -216,7 +216,7 @@ fn are_subscripts(sc: &Scope<'_>, es: &Exprs) -> bool
 }
 
 #[cycle(word)]
-fn is_entry(sc: &Scope<'_>, es: &Exprs) -> bool
+fn is_entry(sc: &Scope<'_, '_>, es: &Exprs) -> bool
     ensures { result ≡ printed.is_entry (scope_in sc.now) (exprs es.now) }
 {
     match es.as_slice() {
@@ -236,7 +236,7 @@ fn is_literal(e: &Expr) -> bool
 
 /// Whether an expression is wide.
 #[cycle(wide)]
-pub fn is_wide_expr(sc: &Scope<'_>, e: &Expr) -> bool
+pub fn is_wide_expr(sc: &Scope<'_, '_>, e: &Expr) -> bool
     ensures { result ≡ printed.is_wide_expr (scope_in sc.now) (expr e.now) }
 {
     match e {
@@ -249,7 +249,7 @@ pub fn is_wide_expr(sc: &Scope<'_>, e: &Expr) -> bool
 }
 
 #[cycle(wide)]
-fn is_wide_side(sc: &Scope<'_>, op: BinOp, b: &Expr) -> bool
+fn is_wide_side(sc: &Scope<'_, '_>, op: BinOp, b: &Expr) -> bool
     ensures { result ≡ printed.is_wide_bin op (expr b.now) (printed.is_wide_expr (scope_in sc.now) (expr b.now)) }
 {
     match op {
@@ -261,7 +261,7 @@ fn is_wide_side(sc: &Scope<'_>, op: BinOp, b: &Expr) -> bool
 }
 
 /// Whether both sides of a comparison are signed, or both are words without cells of arrays.
-pub fn is_test(sc: &Scope<'_>, test: &(Rel, Expr, Expr)) -> bool
+pub fn is_test(sc: &Scope<'_, '_>, test: &(Rel, Expr, Expr)) -> bool
     ensures { result ≡ printed.is_test (scope_in sc.now) (a_test test.now) }
 {
     let (_, a, b) = test;

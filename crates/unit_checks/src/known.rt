@@ -18,12 +18,12 @@ use std::alloc::Global;
 
 /// What may be named: what is in scope at an item, and in an extent the `int64_t` parameters before it.
 #[derive(Clone, Copy)]
-pub enum Known<'a> {
-    Around(&'a Scope<'a>),
-    Before(&'a NameSet<'a>),
+pub enum Known<'a, 'n> {
+    Around(&'a Scope<'a, 'n>),
+    Before(&'a NameSet<'n>),
 }
 
-fn is_known(known: Known<'_>, name: &Name) -> bool
+fn is_known(known: Known<'_, '_>, name: &Name) -> bool
     ensures { result ≡ items.is_known (known_in known.entry) name.now.bytes }
 {
     match known {
@@ -33,7 +33,7 @@ fn is_known(known: Known<'_>, name: &Name) -> bool
 }
 
 #[cycle(known)]
-fn uses_known(known: Known<'_>, e: &Expr) -> bool
+fn uses_known(known: Known<'_, '_>, e: &Expr) -> bool
     ensures { result ≡ head.uses_known (known_in known.entry) (expr e.now) }
 {
     match e {
@@ -54,7 +54,7 @@ fn uses_known(known: Known<'_>, e: &Expr) -> bool
 }
 
 #[cycle(known)]
-fn all_use_known(known: Known<'_>, es: &Exprs) -> bool
+fn all_use_known(known: Known<'_, '_>, es: &Exprs) -> bool
     ensures { result ≡ head.all_use_known (known_in known.entry) (exprs es.now) }
 {
     for e in es.as_slice() {
@@ -65,7 +65,7 @@ fn all_use_known(known: Known<'_>, es: &Exprs) -> bool
     true
 }
 
-fn tests_use_known(known: Known<'_>, ts: &Tests) -> bool
+fn tests_use_known(known: Known<'_, '_>, ts: &Tests) -> bool
     ensures { result ≡ printed.tests_use_known (known_in known.entry) (tests ts.now) }
 {
     for (_, a, b) in ts.as_slice() {
@@ -76,7 +76,7 @@ fn tests_use_known(known: Known<'_>, ts: &Tests) -> bool
     true
 }
 
-fn are_known(sc: &Scope<'_>, names: &[Name]) -> bool
+fn are_known(sc: &Scope<'_, '_>, names: &[Name]) -> bool
     ensures { result ≡ list_all (items.is_known (scope_in sc.now)) (words names.now) }
 {
     for name in names {
@@ -88,7 +88,7 @@ fn are_known(sc: &Scope<'_>, names: &[Name]) -> bool
 }
 
 /// Whether an item uses a name that isn't in scope.
-pub fn has_unknown_name(alloc: Global, sc: &Scope<'_>, s: &Stmt) -> Result<bool, OutOfMemory>
+pub fn has_unknown_name(alloc: Global, sc: &Scope<'_, '_>, s: &Stmt) -> Result<bool, OutOfMemory>
     ensures { IfOk result (λ found. found ≡ not (printed.item_uses_known (scope_in sc.now) (stmt s.now))) }
 {
     let known = Known::Around(sc);

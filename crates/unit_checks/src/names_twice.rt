@@ -12,7 +12,7 @@ use scopes::{Declared, Scope};
 use std::alloc::Global;
 
 /// Whether a loop's variable has a name that is in scope, or a table one that is declared, or either the function's.
-pub fn has_name_twice(sc: &Scope<'_>, s: &Stmt) -> bool
+pub fn has_name_twice(sc: &Scope<'_, '_>, s: &Stmt) -> bool
     ensures { result ≡ printed.item_name_twice (scope_in sc.now) (declared_in sc.now.declared.now).name (stmt s.now) }
 {
     let function = &sc.declared.unit.name;

@@ -10,14 +10,14 @@ ghost use Rattle.scopes.specs.Scopes.{scope_in};
 use c_tree::{Expr, Exprs, Name, Stmt};
 use scopes::Scope;
 
-fn is_constant(sc: &Scope<'_>, x: &Name) -> bool
+fn is_constant(sc: &Scope<'_, '_>, x: &Name) -> bool
     ensures { result ≡ (sources.is_const_array (scope_in sc.now).params x.now.bytes || (items.is_int (scope_in sc.now).params x.now.bytes || items.is_loop (scope_in sc.now).loops x.now.bytes)) }
 {
     sc.declared.is_const_array(x) || sc.is_int(x) || sc.is_loop(x)
 }
 
 /// Whether an item writes to a `const` array, to an `int64_t` parameter or to the variable of a loop.
-pub fn writes_to_const(sc: &Scope<'_>, s: &Stmt) -> bool
+pub fn writes_to_const(sc: &Scope<'_, '_>, s: &Stmt) -> bool
     ensures { result ≡ sources.target_holds (λ x. sources.is_const_array (scope_in sc.now).params x || (items.is_int (scope_in sc.now).params x || items.is_loop (scope_in sc.now).loops x)) (stmt s.now) }
 {
     match s {

@@ -15,7 +15,7 @@ use c_tree::{BinOp, Expr, Exprs, Name, OutOfMemory, Param, Stmt, Tests};
 use scopes::{Declared, Scope};
 use std::alloc::Global;
 
-fn are_tests(sc: &Scope<'_>, ts: &Tests) -> bool
+fn are_tests(sc: &Scope<'_, '_>, ts: &Tests) -> bool
     ensures { result ≡ list_all (printed.is_test (scope_in sc.now)) (tests ts.now) }
 {
     for test in ts.as_slice() {
@@ -38,7 +38,7 @@ fn is_wide_op(op: Option<BinOp>) -> bool
     }
 }
 
-fn is_assignment(sc: &Scope<'_>, target: &Expr, op: Option<BinOp>, value: &Expr) -> bool
+fn is_assignment(sc: &Scope<'_, '_>, target: &Expr, op: Option<BinOp>, value: &Expr) -> bool
     ensures { result ≡ printed.is_assignment (scope_in sc.now) (expr target.now) op (expr value.now) }
 {
     match target {
@@ -51,7 +51,7 @@ fn is_assignment(sc: &Scope<'_>, target: &Expr, op: Option<BinOp>, value: &Expr)
     }
 }
 
-fn are_wide(sc: &Scope<'_>, names: &[Name]) -> bool
+fn are_wide(sc: &Scope<'_, '_>, names: &[Name]) -> bool
     ensures { result ≡ list_all (is_among (scope_in sc.now).wides) (words names.now) }
 {
     for name in names {
@@ -63,7 +63,7 @@ fn are_wide(sc: &Scope<'_>, names: &[Name]) -> bool
 }
 
 /// Whether an item has an expression of a kind that its place doesn't take.
-pub fn has_wrong_kind(alloc: Global, sc: &Scope<'_>, s: &Stmt) -> Result<bool, OutOfMemory>
+pub fn has_wrong_kind(alloc: Global, sc: &Scope<'_, '_>, s: &Stmt) -> Result<bool, OutOfMemory>
     ensures { IfOk result (λ found. found ≡ not (printed.has_kinds (scope_in sc.now) (stmt s.now))) }
 {
     match s {
@@ -82,7 +82,7 @@ pub fn has_wrong_kind(alloc: Global, sc: &Scope<'_>, s: &Stmt) -> Result<bool, O
     }
 }
 
-fn list_signed(place: Place<'_>, es: &Exprs) -> bool
+fn list_signed(place: Place<'_, '_>, es: &Exprs) -> bool
     ensures { result ≡ list_all (printed.is_signed_expr (names_in place.entry) false) (list_of (exprs es.now)) }
 {
     for e in es.as_slice() {
@@ -93,7 +93,7 @@ fn list_signed(place: Place<'_>, es: &Exprs) -> bool
     true
 }
 
-fn extents_signed(place: Place<'_>, params: &[Param]) -> bool
+fn extents_signed(place: Place<'_, '_>, params: &[Param]) -> bool
     ensures { result ≡ printed.extents_signed (names_in place.entry) (map param params.now) }
 {
     for p in params {
