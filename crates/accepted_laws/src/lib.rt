@@ -41,8 +41,10 @@ pub fn a_nest_is_accepted()
     ensures printed { IsPrintedTree (guarded source) }
 {}
 
-/// A source of the one-loop form is of the grammar, and regular; so its instrumented unit is accepted, stores into no array before `begin`, and is one that the interpreter runs.
+/// A source of the one-loop form is accepted, has no irregular subscript, and so is regular; its instrumented unit is accepted, stores into no array before `begin`, and is one that the interpreter runs.
 pub fn one_loop_is_regular()
+    ensures source { (u : PlainUnit) → IsOneLoop u → IsAcceptedSource u }
+    ensures cells { (u : PlainUnit) → IsOneLoop u → all_are_regular u.body ≡ true }
     ensures regular { (u : PlainUnit) → IsOneLoop u → IsRegular u }
     ensures tree { (u : PlainUnit) → IsOneLoop u → IsSourceTree u }
     ensures accepted { (u : PlainUnit) → IsOneLoop u → IsAcceptedPrinted (guarded u) }

@@ -2,7 +2,6 @@ pub mod Exact
 pub mod Expressions
 pub mod Heads
 pub mod Intervals
-pub mod OneLoop
 pub mod Products
 pub mod Sources
 pub mod Statements

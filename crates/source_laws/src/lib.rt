@@ -1,14 +1,14 @@
 //! Laws of accepted sources: they have all that the laws of runs, of instrumented texts and of counting passes ask.
 #![tactic(auto)]
 
-ghost use Rattle.acceptance.specs.Sources.{IsAcceptedSource, all_are_regular};
-ghost use Rattle.c_tree.specs.Inputs.{AreInRange};
-ghost use Rattle.source_laws.specs.Exact.{IsExactFor};
 ghost use Rattle.std.specs.Prelude.{◌≡◌, false, List, ℤ};
-ghost use Rattle.source_laws.specs.Laws.{AcceptedAreExact, AcceptedAreGuarded, AcceptedAreReady, AcceptedAreRunnable, AcceptedAreSources, AcceptedArePrinted, AcceptedFollow, AcceptedHaveForms, AcceptedRunAlike, OneLoopIsAccepted, IsRegularSource};
+ghost use Rattle.acceptance.specs.Sources.{IsAcceptedSource, all_are_regular};
+ghost use Rattle.acceptance.specs.WorkedSources.{gather, mix};
+ghost use Rattle.c_tree.specs.Inputs.{AreInRange};
 ghost use Rattle.guard_laws.specs.Guards.{Guards};
 ghost use Rattle.instrumentation.specs.Guarded.{guarded};
-ghost use Rattle.acceptance.specs.WorkedSources.{gather, mix};
+ghost use Rattle.source_laws.specs.Exact.{IsExactFor};
+ghost use Rattle.source_laws.specs.Laws.{AcceptedAreExact, AcceptedAreGuarded, AcceptedAreReady, AcceptedAreRunnable, AcceptedAreSources, AcceptedArePrinted, AcceptedFollow, AcceptedHaveForms, AcceptedRunAlike, OneLoopIsAccepted, IsRegularSource};
 
 /// Where the parameters lie in their ranges no signed value of an accepted source wraps, index cells or not: its extents and bounds, the sides of its tests, its subscripts and the signed operands of its casts are what they are as whole numbers, at all values that the loops around them have.
 pub fn accepted_sources_are_exact()
@@ -42,7 +42,7 @@ pub fn accepted_sources_are_printed()
     accepted_laws::regular_is_accepted();
 }
 
-/// Under every fault it makes the source's accesses with the same values and ends as the source does, within its arrays or not.
+/// Where the source makes fewer than 2^63 accesses, it makes the same under every fault, with the same values, and ends as the source does, within its arrays or not.
 pub fn accepted_sources_run_alike()
     ensures { AcceptedRunAlike }
 {
