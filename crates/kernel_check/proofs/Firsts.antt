@@ -29,6 +29,7 @@ there c.TooManyReads u i = there_over _ _
 there c.NameTwice u i = there_holds ((condition c.NameTwice u).inside i)
 there c.NameUnknown u i = there_holds ((condition c.NameUnknown u).inside i)
 there c.ReservedName u i = there_holds ((condition c.ReservedName u).inside i)
+there c.BadRange u i = there_holds ((condition c.BadRange u).inside i)
 there c.NotAffine u i = there_holds ((condition c.NotAffine u).inside i)
 there c.CoefficientTooLarge u i = there_holds ((condition c.CoefficientTooLarge u).inside i)
 there c.IntervalTooWide u i = there_holds ((condition c.IntervalTooWide u).inside i)

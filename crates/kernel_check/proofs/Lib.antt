@@ -1,6 +1,8 @@
-pub mod Counts
 pub mod Firsts
 pub mod Flat
 pub mod Judged
+pub mod Numbered
+pub mod Over
+pub mod Ranged
 pub mod Scans
 pub mod Walks

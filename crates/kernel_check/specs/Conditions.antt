@@ -1,7 +1,7 @@
 -- The conditions of the code, and what there is too much of at an item.
 use Rattle.std.specs.Prelude.{◌≡◌, ◌+◌, ◌<◌, ◌^◌, ℕ, Bool, true, false, if◌then◌else◌, nat_lt, length, [], Option, Some, None}
 use Rattle.c_tree.specs.Plain.{PlainUnit}
-use Rattle.acceptance.specs.Head.{intervals_of, extent_not_affine, extent_terms_too_large, extent_too_wide}
+use Rattle.acceptance.specs.Head.{bad_range, intervals_of, extent_not_affine, extent_terms_too_large, extent_too_wide}
 use Rattle.acceptance.specs.Items.{Item, Condition, items_all, least_item}
 use Rattle.acceptance.specs.Limits.{depth, reads_of}
 use Rattle.acceptance.specs.Parts.{intervals_in}
@@ -17,6 +17,7 @@ abbrev pub condition : Check → PlainUnit → Condition
 condition c.NameTwice u = name_twice u
 condition c.NameUnknown u = name_unknown u
 condition c.ReservedName u = reserved_name u
+condition c.BadRange u = bad_range u
 condition c.TooDeep u = record { head = false; inside = λ i. nat_lt 6 (depth i) }
 condition c.TooManyReads u = record { head = false; inside = λ i. nat_lt 16 (reads_of i.stmt) }
 condition c.NotAffine u = not_affine u
@@ -37,6 +38,7 @@ abbrev pub number : Check → ℕ
 number c.NameTwice = 4
 number c.NameUnknown = 5
 number c.ReservedName = 6
+number c.BadRange = 7
 number c.TooDeep = 8
 number c.TooManyReads = 8
 number c.NotAffine = 9

@@ -1,4 +1,5 @@
 pub mod Conditions
+pub mod Excesses
 pub mod Items
 pub mod Judging
 pub mod Scans

@@ -1,10 +1,11 @@
 //! The conditions of a unit, at its head and at an item.
 
-ghost use Rattle.std.specs.Prelude.{◌≡◌, IfOk};
+ghost use Rattle.std.specs.Prelude.{◌≡◌, IfOk, ℕ};
 ghost use Rattle.c_tree.specs.Trees.{stmt};
 ghost use Rattle.kernel_check.specs.Conditions.{condition, excess, holds, over as over_limit, IsRanged};
 ghost use Rattle.kernel_check.specs.Items.{item_in};
 ghost use Rattle.scopes.specs.Scopes.{declared_in};
+ghost use Rattle.unit_checks.specs.Counts.{saturated};
 
 use affine_checks::{extents_not_affine, extents_too_large, extents_too_wide};
 use affine_checks::{is_not_affine, is_too_large, is_too_wide};
@@ -58,7 +59,7 @@ pub fn holds_at_head(
             Ok(extents_too_large(alloc, declared))
         }
         Check::IntervalTooWide | Check::ExtentTooWide => Ok(extents_too_wide(alloc, declared)),
-        Check::WrongKind => head_has_wrong_kind(declared),
+        Check::WrongKind => Ok(head_has_wrong_kind(declared)),
         _ => Ok(false),
     }
 }
@@ -73,6 +74,16 @@ fn over(most: u64, count: u64) -> Option<u64>
     ensures { result ≡ over_limit most count }
 {
     if most < count { Some(count) } else { None }
+}
+
+// A count that is too large for a word isn't told apart from want of memory.
+fn exact(most: u64, count: u64) -> Result<Option<u64>, OutOfMemory>
+    ensures { (n : ℕ) → count ≡ saturated n → IfOk result (λ found. found ≡ over_limit most n) }
+{
+    if count == u64::MAX {
+        return Err(OutOfMemory);
+    }
+    Ok(over(most, count))
 }
 
 /// What there is too much of at an item, or 0, where the condition holds there.
@@ -99,7 +110,7 @@ pub fn excess_of(
         Check::BadIndexArray => Ok(found(has_bad_index_array(sc, s))),
         Check::BadLiteral => Ok(found(has_bad_literal(s))),
         Check::IrregularWrite => Ok(found(has_irregular_write(s))),
-        Check::WrongKind => Ok(found(has_wrong_kind(sc, s))),
+        Check::WrongKind => Ok(found(has_wrong_kind(alloc, sc, s)?)),
         _ => Ok(None),
     }
 }

@@ -3,6 +3,7 @@
 
 mod conditions;
 mod count;
+mod counts;
 mod refusing;
 mod top;
 mod walk;

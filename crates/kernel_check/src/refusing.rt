@@ -23,6 +23,7 @@ fn refusal_at(check: Check, item: u32) -> Refusal
         Check::NameTwice => Refusal::NameTwice { item },
         Check::NameUnknown => Refusal::NameUnknown { item },
         Check::ReservedName => Refusal::ReservedName { item },
+        Check::BadRange => Refusal::BadRange { item },
         Check::TooDeep | Check::TooManyReads => Refusal::TooMany {
             counted: Counted::Depth,
             count: 0,

@@ -39,6 +39,7 @@ fn after(at: u32) -> u32
 }
 
 fn met_at(alloc: Global, check: Check, sc: &Scope<'_, '_>, s: &Stmt, at: u32) -> Result<(), Stop>
+    requires { IsRanged check sc.now }
     ensures { IsMet (excess check (declared_in sc.now.declared.now) (item_in sc.now (stmt s.now))) at result }
 {
     match excess_of(alloc, check, sc, s) {

@@ -1,4 +1,4 @@
-use Rattle.kernel_check.proofs.Counts.{all_summed}
+use Rattle.kernel_check.proofs.Numbered.{all_summed}
 use Rattle.kernel_check.proofs.count.+count.Goals as goal
 
 pub count_all-returns : goal.count_all-returns

@@ -1,6 +1,6 @@
 use Rattle.std.proofs.Common.{[]}
 use Rattle.c_tree.specs.Trees.{stmts}
-use Rattle.kernel_check.proofs.Counts.{all_counted, few}
+use Rattle.kernel_check.proofs.Numbered.{all_counted, few}
 use Rattle.kernel_check.proofs.count.has_few_items.Goals as goal
 
 pub returns : goal.returns
