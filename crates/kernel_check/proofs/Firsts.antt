@@ -1,8 +1,8 @@
 -- The least item of a condition, and the first that a walk finds.
-use Rattle.std.proofs.Common.{◌≡◌, ℕ, suc, Bool, true, false, cond, if◌then◌else◌, nat_lt, List, [], ◌∷◌, Option, Some, None, refl, sym, ap, ◌∙◌}
+use Rattle.std.proofs.Common.{◌≡◌, ℕ, suc, Bool, true, false, if◌then◌else◌, List, [], ◌∷◌, Option, Some, None, refl, sym, ap, ◌∙◌}
 use Rattle.c_tree.specs.Plain.{PlainUnit}
-use Rattle.acceptance.specs.Items.{Item, Condition, items_all, first_where, least_item}
-use Rattle.kernel_check.specs.Conditions.{condition, excess, holds, over}
+use Rattle.acceptance.specs.Items.{Item, items_all, first_where, least_item}
+use Rattle.kernel_check.specs.Conditions.{condition, excess, holds}
 use Rattle.kernel_check.specs.Scans.{met_or, first_met}
 use Rattle.kernel_check.specs.declared.conditions.Check.{Check}
 use Rattle.kernel_check.specs.declared.conditions.Check.TheVariants as c

@@ -1,8 +1,10 @@
 pub mod Firsts
 pub mod Flat
+pub mod FlatTrees
 pub mod Judged
 pub mod Numbered
 pub mod Over
 pub mod Ranged
 pub mod Scans
 pub mod Walks
+pub mod Wholes

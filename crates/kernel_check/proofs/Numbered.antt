@@ -1,11 +1,11 @@
 -- Counts up to a limit.
-use Rattle.std.proofs.Common.{◌≡◌, ℕ, suc, ◌+◌, ◌<◌, ◌≤◌, min, length, length-append, List, [], ◌∷◌, ◌++◌, refl, sym, ap, ◌∙◌, arith, nat_lt, inl, inr, lt-ltb, le-ltb, drop, ◌⊎◌}
+use Rattle.std.proofs.Common.{◌≡◌, ℕ, suc, ◌+◌, ◌<◌, ◌≤◌, min, length, length-append, List, ◌∷◌, refl, sym, ap, ◌∙◌, arith, nat_lt, inl, inr, lt-ltb, le-ltb, drop, ◌⊎◌}
 use Rattle.std.proofs.lemmas.List.{drop_all}
 use Rattle.std.proofs.lemmas.Bool.{cases_lt}
 use Rattle.c_tree.specs.Plain.{Word, PlainStmt, loop, choice, assign, table, begin, check, verdict, PlainStmts, no_stmts, more_stmts}
 use Rattle.c_tree.specs.Trees.{stmts}
 use Rattle.c_tree.specs.declared.stmt.Stmt.{Stmt}
-use Rattle.acceptance.specs.Items.{Item, Loop, items, items_all, tables_after}
+use Rattle.acceptance.specs.Items.{Loop, items, items_all, tables_after}
 use Rattle.kernel_check.specs.Items.{items_in, all_items_in}
 
 pub added : (m a b c : ℕ) → min (min (a + min b m) m + c) m ≡ min (a + (b + c)) m

@@ -1,5 +1,5 @@
 -- Scans of lists in a row.
-use Rattle.std.proofs.Common.{◌≡◌, ℕ, zero, suc, ◌+◌, ◌<◌, List, [], ◌∷◌, ◌++◌, length, Option, Some, None, Result, Ok, Err, refl, sym, ap, ◌∙◌, subst, arith}
+use Rattle.std.proofs.Common.{◌≡◌, ℕ, suc, ◌+◌, List, [], ◌∷◌, ◌++◌, length, Option, Some, None, Result, Ok, Err, refl, sym, ap, ◌∙◌, subst, arith}
 use Rattle.acceptance.specs.Items.{Item}
 use Rattle.kernel_check.specs.Scans.{met, scan, IsScan, IsMet}
 use Rattle.kernel_check.specs.declared.walk.Stop.{Stop}

@@ -1,5 +1,5 @@
 -- The steps of the walk over items.
-use Rattle.std.proofs.Common.{◌≡◌, ℕ, zero, suc, ◌+◌, ◌<◌, ◌^◌, List, [], ◌∷◌, ◌++◌, length, drop, get_or, Option, Some, None, Result, Ok, Err, refl, sym, ap, ◌∙◌, subst, arith, drop-cons, length-append, rules}
+use Rattle.std.proofs.Common.{◌≡◌, ℕ, suc, ◌+◌, ◌<◌, ◌^◌, List, ◌∷◌, ◌++◌, length, drop, get_or, Option, None, Result, Ok, Err, sym, ap, ◌∙◌, subst, arith, drop-cons, length-append, rules}
 use Rattle.c_tree.specs.Plain.{Word, PlainExpr, PlainTest, PlainStmt, choice, loop, PlainStmts}
 use Rattle.c_tree.specs.Trees.{expr, stmt, stmts, tests}
 use Rattle.c_tree.specs.declared.stmt.Stmt.{Stmt, If, For, the_lemmas}

@@ -1,10 +1,12 @@
 -- The refusal that a call answers, by its number and its item.
-use Rattle.std.specs.Prelude.{◌≡◌, ◌⊎◌, ℕ, Bool, if◌then◌else◌, List, [], ◌∷◌, Result, Ok, Err, Option, Some, None}
+use Rattle.std.specs.Prelude.{◌≡◌, ◌⊎◌, ℕ, List, map, Result, Ok, Err, Option, Some, None}
 use Rattle.c_tree.specs.Plain.{PlainUnit}
 use Rattle.c_tree.specs.declared.refusal.Refusal.{Refusal}
 use Rattle.c_tree.specs.declared.refusal.Refusal.TheVariants as r
-use Rattle.acceptance.specs.Items.{Condition, least_item, lowest}
+use Rattle.acceptance.specs.Items.{least_item, lowest}
+use Rattle.acceptance.specs.Head.{extent_not_positive}
 use Rattle.acceptance.specs.Limits.{too_many}
+use Rattle.acceptance.specs.Printed.{at_head, printed_conditions}
 
 abbrev pub number_of : Refusal → ℕ
 number_of r.Unbuilt = 0
@@ -63,3 +65,11 @@ pub record IsLowest (u : PlainUnit) (judged : List (ℕ × Option ℕ)) (why : R
 abbrev pub IsJudged : PlainUnit → List (ℕ × Option ℕ) → Result (Unit {0}) Refusal → Type 0
 IsJudged u judged (Ok done) = lowest judged ≡ None
 IsJudged u judged (Err why) = (why ≡ r.OutOfMemory) ⊎ IsLowest u judged why
+
+-- the twelfth number with its item
+abbrev pub twelfth : PlainUnit → ℕ × Option ℕ
+twelfth u = (12, least_item u (at_head (extent_not_positive u)))
+
+-- the numbers of the refusals of a printed unit, with the least item of each
+abbrev pub printed_judged : PlainUnit → List (ℕ × Option ℕ)
+printed_judged u = map (λ c. (c.0, least_item u c.1)) (printed_conditions u)

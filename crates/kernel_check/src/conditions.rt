@@ -7,16 +7,19 @@ ghost use Rattle.kernel_check.specs.Items.{item_in};
 ghost use Rattle.scopes.specs.Scopes.{declared_in};
 ghost use Rattle.unit_checks.specs.Counts.{saturated};
 
-use affine_checks::{extents_not_affine, extents_too_large, extents_too_wide};
-use affine_checks::{is_not_affine, is_too_large, is_too_wide};
+use affine_checks::{
+    extents_not_affine, extents_too_large, extents_too_wide, is_not_affine, is_too_large,
+    is_too_wide,
+};
 use c_tree::{OutOfMemory, Stmt};
 use scopes::{Declared, Scope};
 use std::alloc::Global;
-use unit_checks::{has_bad_index_array, has_bad_literal, has_irregular_write, has_name_twice};
-use unit_checks::{has_reserved_name, has_unknown_name, has_wrong_dimensions, has_wrong_kind};
-use unit_checks::{head_has_bad_range, head_has_name_twice, head_has_reserved_name};
-use unit_checks::{head_has_unknown_name, head_has_wrong_kind};
-use unit_checks::{loop_depth, reads_in, writes_to_const};
+use unit_checks::{
+    has_bad_index_array, has_bad_literal, has_irregular_write, has_name_twice, has_reserved_name,
+    has_unknown_name, has_wrong_dimensions, has_wrong_kind, head_has_bad_range,
+    head_has_name_twice, head_has_reserved_name, head_has_unknown_name, head_has_wrong_kind,
+    loop_depth, reads_in, writes_to_const,
+};
 
 /// A condition that may hold at the head or at an item.
 #[derive(Clone, Copy, PartialEq, Eq)]

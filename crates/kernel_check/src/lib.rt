@@ -4,6 +4,7 @@
 mod conditions;
 mod count;
 mod counts;
+mod judge;
 mod refusing;
 mod top;
 mod walk;

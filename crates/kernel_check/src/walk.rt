@@ -63,7 +63,13 @@ pub fn first_in<'x, 'n>(
 {
     match s {
         Stmt::Begin => Ok(at),
-        Stmt::For { var, lo, rel, hi, body } => {
+        Stmt::For {
+            var,
+            lo,
+            rel,
+            hi,
+            body,
+        } => {
             met_at(alloc, check, sc, s, at)?;
             let interval = interval_of_loop(sc, lo, *rel, hi);
             let around = Around::Within(var, lo, *rel, hi, interval, sc.around);

@@ -1,4 +1,4 @@
-use Rattle.std.proofs.Common.{◌≡◌, not, ap, sym, ◌∙◌}
+use Rattle.std.proofs.Common.{not, ap, sym, ◌∙◌}
 use Rattle.c_tree.specs.Trees.{stmt}
 use Rattle.acceptance.specs.Affine.{Intervals, holds_throughout, is_narrow}
 use Rattle.acceptance.specs.Parts.{item_parts_hold}
