@@ -1,0 +1,4 @@
+pub mod MergedLaws
+pub mod Ordered
+pub mod Results
+pub mod ScaledLaws

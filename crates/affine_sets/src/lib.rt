@@ -1,0 +1,7 @@
+//! Affine sums: adding and multiplying them, their intervals, the sum that an expression stands for,
+//! and the bounds on differences that they say. `specs/Sums` says what a sum stands for.
+#![tactic(auto)]
+
+mod sums;
+
+pub use sums::{plus, times};
