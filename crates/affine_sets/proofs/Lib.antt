@@ -1,3 +1,5 @@
+pub mod Coefficients
+pub mod DifferenceLaws
 pub mod MergedLaws
 pub mod Ordered
 pub mod Results

@@ -1,2 +1,4 @@
-pub mod Sums
+pub mod Differences
 pub mod Merged
+pub mod Read
+pub mod Sums

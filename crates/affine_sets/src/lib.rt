@@ -2,6 +2,8 @@
 //! and the bounds on differences that they say. `specs/Sums` says what a sum stands for.
 #![tactic(auto)]
 
+mod difference;
 mod sums;
 
+pub use difference::{Diff, as_difference};
 pub use sums::{plus, times};
