@@ -1,6 +1,9 @@
 pub mod Coefficients
 pub mod DifferenceLaws
+pub mod EndLaws
+pub mod EndSteps
 pub mod MergedLaws
 pub mod Ordered
 pub mod Results
 pub mod ScaledLaws
+pub mod Sizes

@@ -1,4 +1,5 @@
 pub mod Differences
+pub mod Ends
 pub mod Merged
 pub mod Read
 pub mod Sums

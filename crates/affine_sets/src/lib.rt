@@ -2,8 +2,10 @@
 //! and the bounds on differences that they say. `specs/Sums` says what a sum stands for.
 #![tactic(auto)]
 
+mod bounds;
 mod difference;
 mod sums;
 
+pub use bounds::{Intervals, interval};
 pub use difference::{Diff, as_difference};
 pub use sums::{plus, times};
