@@ -1,8 +1,8 @@
 -- The coefficients of an ordered list are those of its terms.
-use Rattle.std.proofs.Common.{◌≡◌, ◌<◌, ◌≤◌, ℕ, suc, List, [], ◌∷◌, ℤ, pos, ◌+ℤ◌, refl, sym, ap, ◌∙◌, arith, nat_eq, nat_lt, nat_le, Bool, true, false, cond, not, ◌&&◌}
+use Rattle.std.proofs.Common.{◌≡◌, ◌<◌, ℕ, suc, List, [], ◌∷◌, pos, refl, ap, ◌∙◌, arith, nat_eq, nat_le, true, false, cond}
 use Rattle.std.proofs.lemmas.Int.{ints}
 use Rattle.affine_sets.specs.Sums.{Term, part_at, coefficient_at, is_ordered_from}
-use Rattle.affine_sets.proofs.Ordered.{Parts, parts}
+use Rattle.affine_sets.proofs.Ordered.{parts}
 
 part_is : (i : ℕ) (t : Term) → t.0 ≡ i → part_at i t ≡ t.1
 part_is i t e = let h : nat_eq t.0 i ≡ true = grind arith in ap (λ b. cond b t.1 (pos 0)) h

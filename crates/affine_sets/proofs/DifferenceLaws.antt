@@ -1,13 +1,12 @@
 -- The difference that the code reads says what the sum says.
-use Rattle.std.proofs.Common.{◌≡◌, ℕ, List, [], ◌∷◌, ℤ, pos, negsuc, neg_ℤ, ◌+ℤ◌, ◌-ℤ◌, ◌*ℤ◌, ◌≤ℤ◌, refl, sym, ap, ◌∙◌, inl, inr, arith, Bool, true, false, cond, ◌&&◌, ◌||◌, Option, Some, None}
-use Rattle.std.specs.Prelude.{◌↔◌, ◌⊎◌}
+use Rattle.std.proofs.Common.{◌≡◌, ℕ, List, [], ◌∷◌, ℤ, pos, negsuc, neg_ℤ, ◌+ℤ◌, ◌-ℤ◌, ◌*ℤ◌, ◌≤ℤ◌, refl, ◌∙◌, inl, inr, arith, Bool, true, false, cond, ◌&&◌, ◌||◌, Some, None}
+use Rattle.std.specs.Prelude.{◌↔◌}
 use Rattle.std.specs.Option.{IfSome, is_some}
-use Rattle.std.specs.Ordering.{int_eq}
 use Rattle.std.proofs.lemmas.Bool.{and_parts}
 use Rattle.std.proofs.lemmas.Int.{ints}
 use Rattle.c_tree.specs.declared.affine.Affine.{Affine}
 use Rattle.affine_sets.specs.declared.difference.Diff.{Diff}
-use Rattle.affine_sets.specs.Sums.{Term, coefficient_at, terms_at, is_ordered, is_ordered_from}
+use Rattle.affine_sets.specs.Sums.{Term, terms_at, is_ordered}
 use Rattle.affine_sets.specs.Differences.{is_1, is_minus_1, is_difference, Meets, SaysTheSame, HasVariables}
 use Rattle.affine_sets.specs.Read.{of_terms}
 use Rattle.affine_sets.proofs.Coefficients.{own, second}

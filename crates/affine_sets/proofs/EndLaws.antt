@@ -1,5 +1,5 @@
 -- The ends of an interval bound the values of the sum, and each is one of them.
-use Rattle.std.proofs.Common.{◌≡◌, ◌<◌, ◌≤◌, ◌+◌, ◌*◌, ℕ, suc, ℤ, pos, negsuc, ◌+ℤ◌, ◌*ℤ◌, ◌≤ℤ◌, List, [], ◌∷◌, length, nat_eq, nat_lt, nat_le, Bool, true, false, cond, ◌&&◌, refl, sym, ap, ◌∙◌, subst, ⊎_elim, inl, inr, arith}
+use Rattle.std.proofs.Common.{◌≡◌, ◌<◌, ◌≤◌, ◌+◌, ◌*◌, ℕ, suc, ℤ, pos, negsuc, ◌+ℤ◌, ◌*ℤ◌, ◌≤ℤ◌, List, [], ◌∷◌, length, nat_eq, nat_lt, nat_le, Bool, true, false, cond, ◌&&◌, refl, sym, ap, ◌∙◌, subst, ⊎_elim, arith}
 use Rattle.std.specs.Prelude.{◌⊎◌}
 use Rattle.std.specs.Int.{int_min, int_max}
 use Rattle.std.proofs.lemmas.Bool.{and_parts}
@@ -11,7 +11,7 @@ use Rattle.c_tree.specs.declared.affine.Affine.{Affine}
 use Rattle.affine_sets.specs.Sums.{Term, terms_at, value_at, has_variables_to, is_ordered, is_ordered_from}
 use Rattle.affine_sets.specs.Ends.{Pair, pair_of, ends, interval_of, LiesWithin, IsPoint, HasPoints, IsReached}
 use Rattle.affine_sets.proofs.EndSteps.{end_of}
-use Rattle.affine_sets.proofs.Ordered.{Parts, parts}
+use Rattle.affine_sets.proofs.Ordered.{parts}
 
 -- ---- bounds
 

@@ -1,5 +1,5 @@
 -- Sums that say a bound on a difference of two variables, variable 0 being the constant 0.
-use Rattle.std.specs.Prelude.{◌≡◌, ℕ, Bool, true, false, ◌&&◌, ◌||◌, ◌⊎◌, ◌↔◌, ◌≤ℤ◌, List, [], ◌∷◌, ℤ, pos, negsuc, ◌-ℤ◌, if◌then◌else◌, Option, Some, None}
+use Rattle.std.specs.Prelude.{◌≡◌, ℕ, Bool, true, false, ◌&&◌, ◌||◌, ◌⊎◌, ◌↔◌, ◌≤ℤ◌, List, [], ◌∷◌, ℤ, pos, negsuc, ◌-ℤ◌}
 use Rattle.std.specs.Ordering.{int_eq}
 use Rattle.affine_sets.specs.Sums.{Term, coefficient_at, value_at}
 use Rattle.affine_sets.specs.declared.difference.Diff.{Diff}

@@ -1,5 +1,5 @@
 -- The lists of terms that the code makes. What they stand for is shown in proofs/MergedLaws and proofs/ScaledLaws.
-use Rattle.std.specs.Prelude.{Bool, if◌then◌else◌, nat_lt, List, [], ◌∷◌, ◌++◌, ℤ, pos, ◌+ℤ◌, ◌*ℤ◌}
+use Rattle.std.specs.Prelude.{if◌then◌else◌, nat_lt, List, [], ◌∷◌, ◌++◌, ℤ, pos, ◌+ℤ◌, ◌*ℤ◌}
 use Rattle.std.specs.Ordering.{int_eq}
 use Rattle.affine_sets.specs.Sums.{Term}
 use Rattle.c_tree.specs.declared.affine.Affine.{Affine}

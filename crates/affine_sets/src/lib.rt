@@ -4,8 +4,11 @@
 
 mod bounds;
 mod difference;
+mod expressions;
+mod small;
 mod sums;
 
 pub use bounds::{Intervals, interval};
 pub use difference::{Diff, as_difference};
+pub use expressions::affine_of;
 pub use sums::{plus, times};

@@ -1,4 +1,4 @@
-use Rattle.std.proofs.Common.{ℤ, pos, FitsSigned, length, rules}
+use Rattle.std.proofs.Common.{pos, FitsSigned, length, rules}
 use Rattle.std.specs.Int.{w128, int_max}
 use Rattle.std.proofs.lemmas.Int.{to_z-of_z}
 use Rattle.affine_sets.proofs.EndSteps.{rest, ends_step, size_step}

@@ -1,7 +1,6 @@
 use Rattle.std.proofs.Common.{◌≡◌, ℕ, ℤ, subst, sym}
-use Rattle.c_tree.specs.declared.affine.Affine.{Affine}
 use Rattle.affine_sets.specs.Sums.{value_at}
-use Rattle.affine_sets.specs.Ends.{Pair, interval_of, IsPoint, HasPoints, IsReached, LiesWithin}
+use Rattle.affine_sets.specs.Ends.{interval_of, IsPoint, HasPoints, IsReached, LiesWithin}
 use Rattle.affine_sets.proofs.EndLaws.{bounds, least_reached, greatest_reached}
 use Rattle.affine_sets.proofs.bounds.interval.Goals as goal
 

@@ -1,4 +1,4 @@
-use Rattle.std.proofs.Common.{◌≡◌, ◌^◌, ◌*ℤ◌, pos, FitsSigned, rules, true}
+use Rattle.std.proofs.Common.{◌*ℤ◌, FitsSigned, rules}
 use Rattle.std.specs.Int.{w64, w128}
 use Rattle.std.proofs.lemmas.Int.{to_z-of_z}
 use Rattle.affine_sets.proofs.Sizes.{product_lies, product_fits}
