@@ -7,6 +7,7 @@ pub mod Limits
 pub mod MergedLaws
 pub mod NameLaws
 pub mod Ordered
+pub mod OrderedLaws
 pub mod ReadingLaws
 pub mod Results
 pub mod ScaledLaws

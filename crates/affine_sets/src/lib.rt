@@ -5,10 +5,12 @@
 mod bounds;
 mod difference;
 mod expressions;
+mod laws;
 mod small;
 mod sums;
 
 pub use bounds::{Intervals, interval};
 pub use difference::{Diff, as_difference};
 pub use expressions::affine_of;
+pub use laws::ordered_sums;
 pub use sums::{plus, times};

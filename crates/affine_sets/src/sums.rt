@@ -2,7 +2,7 @@
 
 ghost use Rattle.std.specs.Prelude.{◌≡◌, ◌++◌, ◌^◌, ◌+◌, ◌+ℤ◌, ◌*ℤ◌, ℕ, pos, true, IfOk, OnOk};
 ghost use Rattle.acceptance.specs.Affine.{lies_in};
-ghost use Rattle.affine_sets.specs.Sums.{coefficient_at, is_ordered, products_lie_in, sum_lies_in, terms_lie_in};
+ghost use Rattle.affine_sets.specs.Sums.{coefficient_at, has_variables_to, is_ordered, products_lie_in, sum_lies_in, terms_lie_in};
 ghost use Rattle.affine_sets.specs.Merged.{kept, merged, multiple_of, scaled, sum_of};
 
 use c_tree::{Affine, OutOfMemory, Terms};
@@ -144,6 +144,7 @@ pub fn plus(alloc: Global, a: &Affine, b: &Affine) -> Result<Affine, OutOfMemory
     ensures constant { IfOk result (λ s. s.constant ≡ a.now.constant +ℤ b.now.constant) }
     ensures coefficients { IfOk result (λ s. (v : ℕ) → coefficient_at v s.terms ≡ coefficient_at v a.now.terms +ℤ coefficient_at v b.now.terms) }
     ensures ordered { IfOk result (λ s. is_ordered s.terms ≡ true) }
+    ensures variables { IfOk result (λ s. (n : ℕ) → has_variables_to n a.now.terms ≡ true → has_variables_to n b.now.terms ≡ true → has_variables_to n s.terms ≡ true) }
     ensures size { IfOk result (λ s. (m n : ℕ) → sum_lies_in (pos m) a.now ≡ true → sum_lies_in (pos n) b.now ≡ true → sum_lies_in (pos (m + n)) s ≡ true) }
 {
     sum_of(alloc, a, b)
@@ -157,6 +158,7 @@ pub fn times(alloc: Global, a: &Affine, factor: i64) -> Result<Affine, OutOfMemo
     ensures constant { IfOk result (λ s. s.constant ≡ a.now.constant *ℤ factor) }
     ensures coefficients { IfOk result (λ s. (v : ℕ) → coefficient_at v s.terms ≡ coefficient_at v a.now.terms *ℤ factor) }
     ensures ordered { IfOk result (λ s. is_ordered s.terms ≡ true) }
+    ensures variables { IfOk result (λ s. (n : ℕ) → has_variables_to n a.now.terms ≡ true → has_variables_to n s.terms ≡ true) }
     ensures size { IfOk result (λ s. (m : ℕ) → lies_in (pos m) (a.now.constant *ℤ factor) ≡ true → products_lie_in (pos m) factor a.now.terms ≡ true → sum_lies_in (pos m) s ≡ true) }
 {
     multiple_of(alloc, a, factor)
