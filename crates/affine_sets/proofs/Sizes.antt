@@ -1,9 +1,13 @@
 -- How large products are.
-use Rattle.std.proofs.Common.{◌≡◌, ◌≤◌, ◌*◌, ◌^◌, ℕ, suc, ℤ, pos, negsuc, ◌+ℤ◌, ◌*ℤ◌, FitsSigned, true, arith}
+use Rattle.std.proofs.Common.{◌≡◌, ◌≤◌, ◌*◌, ◌^◌, ℕ, suc, List, ℤ, pos, negsuc, ◌+ℤ◌, ◌*ℤ◌, FitsSigned, true, arith}
 use Rattle.std.specs.Int.{w64, w128}
 use Rattle.std.specs.Int.RustNames.{unsigned_abs}
 use Rattle.std.proofs.lemmas.Int.{ints, unsigned_abs-mul, fits_signed_from_abs}
 use Rattle.std.proofs.Math.Nat.{mul-le-mul_right, mul-le-mul_left}
+use Rattle.std.proofs.lemmas.Bool.{and_parts}
+use Rattle.affine_sets.specs.Sums.{Term, terms_lie_in, products_lie_in}
+use Rattle.affine_sets.specs.Laws.{MultiplesLieIn}
+use Rattle.affine_sets.proofs.Limits.{all_as}
 use Rattle.acceptance.specs.Affine.{lies_in}
 
 small : (a : ℤ) (n : ℕ) → lies_in (pos n) a ≡ true → unsigned_abs a ≤ n
@@ -35,3 +39,17 @@ added_lies a b n h k = grind (arith, ints)
 
 pub added_fits : (a b : ℤ) → lies_in (pos (2 ^ 107)) a ≡ true → lies_in (pos (64 * 2 ^ 107)) b ≡ true → FitsSigned w128 (a +ℤ b)
 added_fits a b h k = fits_signed_from_abs w128 (a +ℤ b) (omega (arith, small (a +ℤ b) (65 * 2 ^ 107) (added_lies a b 64 h k)))
+
+pub times_lies : (m n : ℕ) (a k : ℤ) → lies_in (pos m) a ≡ true → lies_in (pos n) k ≡ true → lies_in (pos (m * n)) (a *ℤ k) ≡ true
+times_lies m n a k h i =
+    let x = mul-le-mul_right (unsigned_abs k) (small a m h) in
+    let y = mul-le-mul_left m (small k n i) in
+    lies (a *ℤ k) (m * n) (omega (arith, unsigned_abs-mul a k, x, y))
+
+pub products_lie : (m n : ℕ) (ts : List Term) (k : ℤ) → terms_lie_in (pos m) ts ≡ true → lies_in (pos n) k ≡ true → products_lie_in (pos (m * n)) k ts ≡ true
+products_lie m n ts k h i = all_as (λ t. lies_in (pos m) t.1) (λ t. lies_in (pos (m * n)) (t.1 *ℤ k)) (λ t l. times_lies m n t.1 k l i) ts h
+
+pub multiples_lie : MultiplesLieIn
+multiples_lie m n a k h i =
+    let l = and_parts (lies_in (pos m) a.constant) (terms_lie_in (pos m) a.terms) h in
+    (times_lies m n a.constant k l.0 i, products_lie m n a.terms k l.1 i)

@@ -1,8 +1,8 @@
 -- What follows of sums that stand in order.
-use Rattle.std.specs.Prelude.{◌≡◌, ℕ, ◌≤◌, true, List, length, pos}
+use Rattle.std.specs.Prelude.{◌≡◌, ℕ, ◌*◌, ◌≤◌, true, List, length, ℤ, pos, ◌*ℤ◌}
 use Rattle.acceptance.specs.Affine.{lies_in}
 use Rattle.c_tree.specs.declared.affine.Affine.{Affine}
-use Rattle.affine_sets.specs.Sums.{Term, coefficient_at, is_ordered, has_variables_to, terms_lie_in, sum_lies_in}
+use Rattle.affine_sets.specs.Sums.{Term, coefficient_at, is_ordered, has_variables_to, terms_lie_in, products_lie_in, sum_lies_in}
 
 -- the coefficients determine the terms
 abbrev pub TermsAreDetermined : Type 0
@@ -19,3 +19,8 @@ CoefficientsLieIn = (m : ℕ) (ts : List Term) → is_ordered ts ≡ true → te
 -- a sum within a limit is within each larger one
 abbrev pub LimitsGrow : Type 0
 LimitsGrow = (m n : ℕ) → m ≤ n → (a : Affine) → sum_lies_in (pos m) a ≡ true → sum_lies_in (pos n) a ≡ true
+
+-- where a sum lies between -m and m and a factor between -n and n, the products lie between -m * n and m * n
+abbrev pub MultiplesLieIn : Type 0
+MultiplesLieIn = (m n : ℕ) (a : Affine) (factor : ℤ) → sum_lies_in (pos m) a ≡ true → lies_in (pos n) factor ≡ true
+    → (lies_in (pos (m * n)) (a.constant *ℤ factor) ≡ true) × (products_lie_in (pos (m * n)) factor a.terms ≡ true)

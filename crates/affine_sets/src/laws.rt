@@ -1,6 +1,6 @@
 //! What follows of sums whose terms stand in order.
 
-ghost use Rattle.affine_sets.specs.Laws.{CoefficientsLieIn, LimitsGrow, TermsAreDetermined, TermsAreFew};
+ghost use Rattle.affine_sets.specs.Laws.{CoefficientsLieIn, LimitsGrow, MultiplesLieIn, TermsAreDetermined, TermsAreFew};
 
 /// For a user of sums: the coefficients determine the terms, of n variables there are at most n terms, and what lies
 /// within a limit lies within each larger one.
@@ -9,4 +9,5 @@ pub fn ordered_sums()
     ensures few { TermsAreFew }
     ensures coefficients { CoefficientsLieIn }
     ensures limits { LimitsGrow }
+    ensures multiples { MultiplesLieIn }
 {}

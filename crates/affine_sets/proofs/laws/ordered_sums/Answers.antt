@@ -1,5 +1,6 @@
 use Rattle.affine_sets.proofs.Limits.{sum_more}
 use Rattle.affine_sets.proofs.OrderedLaws.{terms_are_determined, terms_are_few}
+use Rattle.affine_sets.proofs.Sizes.{multiples_lie}
 use Rattle.affine_sets.proofs.SmallLaws.{each_lies}
 use Rattle.affine_sets.proofs.laws.ordered_sums.Goals as goal
 
@@ -14,3 +15,6 @@ returns-clause-coefficients c = λ m ts o h. each_lies m 0 ts o h
 
 pub returns-clause-limits : goal.returns-clause-limits
 returns-clause-limits c = sum_more
+
+pub returns-clause-multiples : goal.returns-clause-multiples
+returns-clause-multiples c = multiples_lie
