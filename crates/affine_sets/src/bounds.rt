@@ -1,6 +1,6 @@
 //! Intervals of sums.
 
-ghost use Rattle.std.specs.Prelude.{◌≡◌, ◌^◌, ◌<◌, ◌≤◌, ◌+◌, ◌*◌, ◌+ℤ◌, ◌*ℤ◌, ◌≤ℤ◌, ℕ, ℤ, length, pos, nat_le, nat_lt, suc, true};
+ghost use Rattle.std.specs.Prelude.{◌≡◌, ◌^◌, ◌<◌, ◌≤◌, ◌*◌, ◌+ℤ◌, ◌*ℤ◌, ℕ, ℤ, length, pos, suc, true};
 ghost use Rattle.std.specs.Int.{int_max, int_min};
 ghost use Rattle.acceptance.specs.Affine.{lies_in};
 ghost use Rattle.affine_sets.specs.Ends.{HasPoints, IsPoint, IsReached, LiesWithin, ends, interval_of, pair_of};
@@ -155,8 +155,8 @@ fn both_ends(a: &Affine, within: &Intervals) -> (i128, i128)
     (least_value(a, pairs), greatest_value(a, pairs))
 }
 
-/// The least and the greatest value of a sum where each variable's value lies within its pair. A pair whose first
-/// number is the greater counts as the two ends that it has.
+/// The least and the greatest value of a sum where each variable's value lies within its pair. A
+/// pair whose first number is the greater counts as the two ends that it has.
 pub fn interval(a: &Affine, within: &Intervals) -> (i128, i128)
     requires ordered { is_ordered a.now.terms ≡ true }
     requires few { length a.now.terms ≤ 64 }

@@ -1,6 +1,6 @@
 //! The sum that an expression stands for.
 
-ghost use Rattle.std.specs.Prelude.{◌≡◌, ◌^◌, ◌+◌, ℕ, length, map, negsuc, option_and_then, option_map, pos, true, IfOk};
+ghost use Rattle.std.specs.Prelude.{◌≡◌, ◌^◌, negsuc, option_and_then, option_map, pos, true, IfOk};
 ghost use Rattle.std.specs.Option.{IfSome, is_some};
 ghost use Rattle.c_tree.specs.Names.{words};
 ghost use Rattle.c_tree.specs.Trees.{expr, word};
@@ -8,7 +8,7 @@ ghost use Rattle.affine_sets.specs.Collected as collected;
 ghost use Rattle.affine_sets.specs.Expressions.{StandsFor, are_different, is_sum};
 ghost use Rattle.affine_sets.specs.Sums.{sum_lies_in};
 
-use crate::small::{is_small, small_multiple, small_sum};
+use crate::small::{small_multiple, small_sum};
 use c_tree::{Affine, BinOp, Expr, Name, NameList, OutOfMemory, UnOp};
 use sqlite_items::Items;
 use std::alloc::Global;

@@ -1,6 +1,6 @@
 //! Sums and multiples that stay small.
 
-ghost use Rattle.std.specs.Prelude.{◌≡◌, ◌^◌, ◌*ℤ◌, ◌&&◌, pos, true, IfOk};
+ghost use Rattle.std.specs.Prelude.{◌≡◌, ◌^◌, ◌*ℤ◌, pos, true, IfOk};
 ghost use Rattle.std.specs.Option.{IfSome};
 ghost use Rattle.acceptance.specs.Affine.{lies_in};
 ghost use Rattle.affine_sets.specs.Collected as collected;
@@ -12,7 +12,7 @@ use std::alloc::Global;
 
 const MOST: i64 = 1 << 44;
 
-pub fn is_small(number: i64) -> bool
+fn is_small(number: i64) -> bool
     ensures { result ≡ lies_in (pos (2 ^ 44)) number }
 {
     -MOST <= number && number <= MOST
