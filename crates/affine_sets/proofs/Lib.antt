@@ -1,0 +1,15 @@
+pub mod Coefficients
+pub mod CollectedSmall
+pub mod DifferenceLaws
+pub mod EndLaws
+pub mod EndSteps
+pub mod Limits
+pub mod MergedLaws
+pub mod NameLaws
+pub mod Ordered
+pub mod OrderedLaws
+pub mod ReadingLaws
+pub mod Results
+pub mod ScaledLaws
+pub mod Sizes
+pub mod SmallLaws

@@ -1,0 +1,8 @@
+pub mod Collected
+pub mod Differences
+pub mod Ends
+pub mod Expressions
+pub mod Laws
+pub mod Merged
+pub mod Read
+pub mod Sums
