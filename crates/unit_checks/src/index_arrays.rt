@@ -1,4 +1,4 @@
-//! S15: an index array that is written, or that subscripts itself.
+//! S15: an index array that is not `const`, or that subscripts itself.
 
 ghost use Rattle.std.specs.Prelude.{◌≡◌, not};
 ghost use Rattle.c_tree.specs.Plain.{more_exprs, no_exprs};

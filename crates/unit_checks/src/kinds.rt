@@ -220,8 +220,9 @@ fn is_entry(sc: &Scope<'_, '_>, es: &Exprs) -> bool
     ensures { result ≡ printed.is_entry (scope_in sc.now) (exprs es.now) }
 {
     match es.as_slice() {
+        [] => false,
         [e] => is_word_expr(sc, e),
-        _ => false,
+        [_, _, ..] => false,
     }
 }
 
