@@ -5,6 +5,7 @@ pub mod Judged
 pub mod Numbered
 pub mod Over
 pub mod Ranged
+pub mod Refused
 pub mod Scans
 pub mod Walks
 pub mod Wholes

@@ -5,6 +5,10 @@ mod conditions;
 mod count;
 mod counts;
 mod judge;
+mod laws;
 mod refusing;
 mod top;
 mod walk;
+
+pub use judge::{judge_printed, judge_source};
+pub use laws::refused_or_not;
