@@ -1,0 +1,14 @@
+pub mod Coefficients
+pub mod CollectedSmall
+pub mod DifferenceLaws
+pub mod EndLaws
+pub mod EndSteps
+pub mod Limits
+pub mod MergedLaws
+pub mod NameLaws
+pub mod Ordered
+pub mod ReadingLaws
+pub mod Results
+pub mod ScaledLaws
+pub mod Sizes
+pub mod SmallLaws
