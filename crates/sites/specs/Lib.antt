@@ -1,0 +1,6 @@
+pub mod Classes
+pub mod Forms
+pub mod Found
+pub mod Shown
+pub mod Sites
+pub mod Small

@@ -1,0 +1,14 @@
+//! The sites of a source, which are its reads and writes of arrays, and the classes of its arrays.
+//! `specs/Sites` says which the sites are, and `specs/Classes` which class an array has.
+#![tactic(auto)]
+
+mod class;
+mod form;
+mod frames;
+mod good;
+mod occurs;
+mod question;
+mod small;
+mod walk;
+
+pub use class::Class;
