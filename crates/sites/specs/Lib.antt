@@ -1,3 +1,4 @@
+pub mod Asked
 pub mod Classes
 pub mod Forms
 pub mod Found

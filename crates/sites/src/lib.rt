@@ -8,6 +8,7 @@ mod frames;
 mod good;
 mod occurs;
 mod question;
+mod report;
 mod small;
 mod walk;
 
