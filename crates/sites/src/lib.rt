@@ -13,3 +13,4 @@ mod small;
 mod walk;
 
 pub use class::Class;
+pub use report::class_of;

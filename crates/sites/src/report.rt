@@ -3,6 +3,8 @@
 ghost use Rattle.std.specs.Prelude.{◌≡◌, ◌-◌, ◌^◌, length, map, min, nat_le, nat_lt};
 ghost use Rattle.std.specs.List.{list_all, list_any};
 ghost use Rattle.c_tree.specs.Names.{ints_in};
+ghost use Rattle.acceptance.specs.Sources.{IsAcceptedSource};
+ghost use Rattle.c_tree.specs.Trees as plain;
 ghost use Rattle.c_tree.specs.Trees.{param};
 ghost use Rattle.sites.specs.Asked.{ints_of, number_asked, occurring, sites_in};
 ghost use Rattle.sites.specs.Classes as spec;
@@ -102,4 +104,12 @@ fn class_found(unit: &Unit, array: &Name) -> Class
     } else {
         Class::Counted
     }
+}
+
+/// The class of an array, which is counted where there is none of this name.
+pub fn class_of(unit: &Unit, array: &Name) -> Class
+    requires { IsAcceptedSource (plain.unit unit.now) }
+    ensures { result ≡ spec.class_of (plain.unit unit.now) array.now.bytes }
+{
+    class_found(unit, array)
 }
