@@ -13,4 +13,4 @@ mod small;
 mod walk;
 
 pub use class::Class;
-pub use report::class_of;
+pub use report::{class_of, reads_of, writes_of};

@@ -9,7 +9,7 @@ ghost use Rattle.c_tree.specs.Trees.{param};
 ghost use Rattle.sites.specs.Asked.{ints_of, number_asked, occurring, sites_in};
 ghost use Rattle.sites.specs.Classes as spec;
 ghost use Rattle.sites.specs.Found.{bit};
-ghost use Rattle.sites.specs.Sites.{around};
+ghost use Rattle.sites.specs.Sites.{around, is_read, is_write, sites_of};
 ghost use Rattle.sites.specs.Small.{where_small};
 
 use crate::class::Class;
@@ -112,4 +112,20 @@ pub fn class_of(unit: &Unit, array: &Name) -> Class
     ensures { result ≡ spec.class_of (plain.unit unit.now) array.now.bytes }
 {
     class_found(unit, array)
+}
+
+/// How many read sites an array has, an old cell of a compound assignment and an index cell being reads.
+pub fn reads_of(unit: &Unit, array: &Name) -> u32
+    requires { IsAcceptedSource (plain.unit unit.now) }
+    ensures { result ≡ spec.number is_read (sites_of (plain.unit unit.now) array.now.bytes) }
+{
+    number(unit, array, Ask::Reads)
+}
+
+/// How many write sites an array has.
+pub fn writes_of(unit: &Unit, array: &Name) -> u32
+    requires { IsAcceptedSource (plain.unit unit.now) }
+    ensures { result ≡ spec.number is_write (sites_of (plain.unit unit.now) array.now.bytes) }
+{
+    number(unit, array, Ask::Writes)
 }
