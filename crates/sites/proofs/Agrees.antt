@@ -180,7 +180,7 @@ filter_same p q (x ∷ xs) h = ap (λ b. cond b (x ∷ filter p xs) (filter p xs
 pub class_same : (ints : List Word) (ss : List Site) → AllByRecursion (SiteSmall ints) ss → class_by where_small ints ss ≡ class_by exactly ints ss
 class_same ints ss h =
     ap (λ b. if list_any (λ s. is_irregular s.reach) ss then Inspected else if nat_le (number is_write ss) 4 && (nat_le (number is_read ss) 8
-        && (b && nat_le (length (filter (λ x. list_any (λ s. occurs where_small x (around s) s.reach.at) ss) ints)) 4)) then Difference else Counted) (all_good_same ints ss h)
+    && (b && nat_le (length (filter (λ x. list_any (λ s. occurs where_small x (around s) s.reach.at) ss) ints)) 4)) then Difference else Counted) (all_good_same ints ss h)
     ∙ ap (λ (xs : List Word). if list_any (λ s. is_irregular s.reach) ss then Inspected else if nat_le (number is_write ss) 4 && (nat_le (number is_read ss) 8
-        && (list_all (λ s. is_good exactly ints (around s) s.reach.at) ss && nat_le (length xs) 4)) then Difference else Counted)
+    && (list_all (λ s. is_good exactly ints (around s) s.reach.at) ss && nat_le (length xs) 4)) then Difference else Counted)
     (filter_same (λ x. list_any (λ s. occurs where_small x (around s) s.reach.at) ss) (λ x. list_any (λ s. occurs exactly x (around s) s.reach.at) ss) ints (sites_named ints ss h))

@@ -5,3 +5,4 @@ pub mod Found
 pub mod Shown
 pub mod Sites
 pub mod Small
+pub mod Worked

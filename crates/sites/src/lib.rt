@@ -6,6 +6,7 @@ mod class;
 mod form;
 mod frames;
 mod good;
+mod laws;
 mod occurs;
 mod question;
 mod report;
@@ -13,4 +14,5 @@ mod small;
 mod walk;
 
 pub use class::Class;
+pub use laws::{worked_arrays, worked_classes, worked_sites};
 pub use report::{class_of, reads_of, writes_of};

@@ -47,11 +47,7 @@ fn occurs(unit: &Unit, array: &Name, x: &Name) -> bool
 fn occurs_once(unit: &Unit, array: &Name, x: &Name) -> u32
     ensures { result ≡ bit (list_any (λ s. spec.occurs where_small x.now.bytes (around s) s.reach.at) (sites_in unit.now array.now.bytes)) }
 {
-    if occurs(unit, array, x) {
-        1
-    } else {
-        0
-    }
+    if occurs(unit, array, x) { 1 } else { 0 }
 }
 
 /// How many parameters occur around sites of the array.

@@ -43,13 +43,7 @@ fn found_in_all(q: &Question<'_>, frames: &Frames<'_>, es: &Exprs) -> u32
     sum
 }
 
-fn found_old(
-    q: &Question<'_>,
-    frames: &Frames<'_>,
-    op: Option<BinOp>,
-    x: &Name,
-    at: &Exprs,
-) -> u32
+fn found_old(q: &Question<'_>, frames: &Frames<'_>, op: Option<BinOp>, x: &Name, at: &Exprs) -> u32
     ensures { result ≡ spec.found_old (meets q.now (frames_in frames.now)) op x.now.bytes (exprs at.now) }
 {
     match op {
@@ -82,7 +76,13 @@ fn found<'x>(q: &Question<'_>, frames: &'x Frames<'x>, s: &'x Stmt) -> u32
     ensures { result ≡ min (spec.found (meets q.now) (stmt s.now) (frames_in frames.now)) (2 ^ 32 - 1) }
 {
     match s {
-        Stmt::For { var, lo, rel, hi, body } => {
+        Stmt::For {
+            var,
+            lo,
+            rel,
+            hi,
+            body,
+        } => {
             let inner = Frames::InLoop(var, lo, *rel, hi, frames);
             found_all(q, &inner, body)
         }
