@@ -1,6 +1,6 @@
 -- The lines on the error stream.
 use Rattle.std.specs.Prelude.{ℕ, List, ◌++◌, codes, decimal}
-use Rattle.command_line.specs.Orders.{Order, print, run_file, attempt}
+use Rattle.command_line.specs.Orders.{Order, print, run_file, attempt, report}
 use Rattle.command_line.specs.Refusals.{refusal_text}
 use Rattle.command_line.specs.declared.outcome.FileWord.{FileWord}
 use Rattle.command_line.specs.declared.outcome.FileWord.TheVariants as word
@@ -27,6 +27,7 @@ abbrev pub name_of : Order → FileWord → List ℕ
 name_of (print source) word = source
 name_of (run_file file input) word = by_word word file input
 name_of (attempt source input) word = by_word word source input
+name_of (report source) word = source
 
 abbrev pub limit_of : FileWord → ℕ
 limit_of word.Source = 262144

@@ -8,6 +8,8 @@ pub data Order : Type 0 where
   run_file : (file input : List ℕ) → Order
   -- try SOURCE DATA
   attempt : (source input : List ℕ) → Order
+  -- report SOURCE
+  report : (source : List ℕ) → Order
 
 -- a name isn't empty and doesn't begin with `-`
 abbrev pub is_name : List ℕ → Bool
@@ -15,7 +17,10 @@ is_name [] = false
 is_name (byte ∷ bytes) = not (byte == 45)
 
 abbrev pub order_of : List (List ℕ) → Option Order
-order_of (mode ∷ source ∷ []) = if bytes_eq mode (codes "print") && is_name source then Some (print source) else None
+order_of (mode ∷ source ∷ []) =
+    if bytes_eq mode (codes "print") && is_name source
+    then Some (print source)
+    else (if bytes_eq mode (codes "report") && is_name source then Some (report source) else None)
 order_of (mode ∷ file ∷ input ∷ []) =
     if bytes_eq mode (codes "run") && (is_name file && is_name input)
     then Some (run_file file input)
@@ -27,3 +32,4 @@ abbrev pub files_of : Order → List (List ℕ)
 files_of (print source) = source ∷ []
 files_of (run_file file input) = file ∷ input ∷ []
 files_of (attempt source input) = source ∷ input ∷ []
+files_of (report source) = source ∷ []

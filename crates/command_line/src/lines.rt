@@ -46,7 +46,7 @@ fn name_of<'a>(command: Command<'a>, word: FileWord) -> &'a str
     ensures { result.now ≡ name_at (ordered command.entry) word }
 {
     match command {
-        Command::Print { source } => source,
+        Command::Print { source } | Command::Report { source } => source,
         Command::Run { file, input } => by_word(word, file, input),
         Command::Attempt { source, input } => by_word(word, source, input),
     }

@@ -10,6 +10,7 @@ pub enum Command<'a> {
     Print { source: &'a str },
     Run { file: &'a str, input: &'a str },
     Attempt { source: &'a str, input: &'a str },
+    Report { source: &'a str },
 }
 
 // Not empty, and no option.
@@ -29,6 +30,11 @@ pub fn command_of(words: &[String]) -> Option<Command<'_>>
     match words {
         [mode, source] if mode.as_str() == "print" && is_name(source.as_str()) => Some(
             Command::Print {
+                source: source.as_str(),
+            },
+        ),
+        [mode, source] if mode.as_str() == "report" && is_name(source.as_str()) => Some(
+            Command::Report {
                 source: source.as_str(),
             },
         ),
