@@ -1,11 +1,11 @@
 -- An ordered list is determined by its coefficients, and is short.
-use Rattle.std.proofs.Common.{◌≡◌, ◌≢◌, ◌<◌, ◌≤◌, ◌+◌, ℕ, suc, List, [], ◌∷◌, length, ℤ, pos, ◌+ℤ◌, refl, sym, ap, ◌∙◌, subst, arith, nat_eq, nat_lt, nat_le, Bool, true, false, cond, not, ◌&&◌}
+use Rattle.std.proofs.Common.{◌≡◌, ◌<◌, ◌≤◌, ◌+◌, ℕ, suc, List, [], ◌∷◌, length, ℤ, pos, refl, sym, ap, ◌∙◌, arith, nat_eq, nat_lt, nat_le, Bool, true, false, not, ◌&&◌}
 use Rattle.std.specs.Ordering.{int_eq}
 use Rattle.std.proofs.lemmas.Bool.{and_parts}
 use Rattle.std.proofs.lemmas.Int.{ints}
-use Rattle.affine_sets.specs.Sums.{Term, coefficient_at, is_ordered, is_ordered_from, has_variables_to}
+use Rattle.affine_sets.specs.Sums.{Term, coefficient_at, is_ordered_from, has_variables_to}
 use Rattle.affine_sets.specs.Laws.{TermsAreDetermined, TermsAreFew}
-use Rattle.affine_sets.proofs.Ordered.{Parts, parts}
+use Rattle.affine_sets.proofs.Ordered.{parts}
 use Rattle.affine_sets.proofs.Coefficients.{own, beside, absent}
 
 -- a coefficient of an ordered list isn't 0

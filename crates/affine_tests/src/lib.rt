@@ -3,12 +3,12 @@
 #![tactic(auto)]
 
 #[cfg(test)]
-mod differences_of;
+mod differences;
 #[cfg(test)]
 mod expressions;
 #[cfg(test)]
-mod intervals_of;
+mod intervals;
 #[cfg(test)]
-mod readings_of;
+mod readings;
 #[cfg(test)]
-mod sums_of;
+mod sums;

@@ -50,7 +50,7 @@ fn large_parts(alloc: Global) -> Result<bool, OutOfMemory> {
 }
 
 #[test]
-fn readings(rt: HostRuntime) -> Result<(), Fail> {
+fn reads_expressions(rt: HostRuntime) -> Result<(), Fail> {
     let alloc = rt.alloc();
     assert!(rt; like_terms_are_collected(alloc)?);
     assert!(rt; what_cancels_leaves_no_term(alloc)?);

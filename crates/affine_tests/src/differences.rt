@@ -56,7 +56,7 @@ fn sum_of_variables(alloc: Global) -> Result<bool, OutOfMemory> {
 }
 
 #[test]
-fn differences(rt: HostRuntime) -> Result<(), Fail> {
+fn says_differences(rt: HostRuntime) -> Result<(), Fail> {
     let alloc = rt.alloc();
     assert!(rt; two_variables(alloc)?);
     assert!(rt; the_other_way_round(alloc)?);

@@ -50,7 +50,7 @@ fn adds(alloc: Global, e: &Expr, constant: i64, terms: &[(u32, i64)]) -> Result<
 }
 
 #[test]
-fn sums(rt: HostRuntime) -> Result<(), Fail> {
+fn adds_and_multiplies(rt: HostRuntime) -> Result<(), Fail> {
     let alloc = rt.alloc();
     assert!(rt; multiplies(alloc)?);
     assert!(rt; adds(alloc, &n(alloc)?, 3, &[(1, 1)])?);

@@ -1,5 +1,5 @@
 use Rattle.std.proofs.Common.{◌^◌, lit≤}
-use Rattle.affine_tests.proofs.sums_of.total.Goals as goal
+use Rattle.affine_tests.proofs.sums.total.Goals as goal
 
 pub plus-requires-clause-left_size : goal.plus-requires-clause-left_size
 plus-requires-clause-left_size c = c.ordered_sums.ensures.limits (2 ^ 44) (2 ^ 60) (lit≤ tt) c.args.a.now c.requires.left_size

@@ -54,7 +54,7 @@ fn beyond_64_bits(alloc: Global) -> Result<bool, OutOfMemory> {
 }
 
 #[test]
-fn intervals(rt: HostRuntime) -> Result<(), Fail> {
+fn gives_both_ends(rt: HostRuntime) -> Result<(), Fail> {
     let alloc = rt.alloc();
     assert!(rt; within_64_bits(alloc)?);
     assert!(rt; beyond_64_bits(alloc)?);
