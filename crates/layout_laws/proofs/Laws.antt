@@ -44,6 +44,18 @@ proper_of text u ts e h true is =
     let x = h.printed (ap leads same) in
     subst (λ v. ProperUnit (is_some v) u) (sym x.0) (x.1 (subst (λ ks. AllProper true (drop 1 ks)) (sym same) all))
 
+-- whether a unit that a text has is a printed one
+version_of : (text : Text) (u : PlainUnit) (ts : List Lexeme) → all_lexemes text ≡ Some ts → Split ts u → (b : Bool) → is_printed text ≡ b → is_some u.version ≡ b
+version_of text u ts e h false is =
+    let all = lexed_proper false Fresh 0 text ts (sym (source_lexemes text is) ∙ e) in
+    ap is_some (h.source (no_lead false ts all)).0
+version_of text u ts e h true is =
+    let (us, o, same) = of_map _ ts (sym (printed_lexemes text is) ∙ e) in
+    ap is_some (h.printed (ap leads same)).0
+
+pub told_by_preamble : (text : Text) (u : PlainUnit) → IsText text u → is_some u.version ≡ is_printed text
+told_by_preamble text u d = version_of text u (lexemes text d.tokens) (of_tokens text d.tokens d.are_tokens) (split (lexemes text d.tokens) u d.is_unit) (is_printed text) refl
+
 pub tree_of_text : (text : Text) (u : PlainUnit) → IsText text u → IsTree u
 tree_of_text text u d = record {
   fine = fine_unit d.is_unit;

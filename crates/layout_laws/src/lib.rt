@@ -2,10 +2,10 @@
 //! what is printed is read again.
 #![tactic(auto)]
 
-ghost use Rattle.std.specs.Prelude.{List};
+ghost use Rattle.std.specs.Prelude.{◌≡◌, is_some, List};
 ghost use Rattle.c_tree.specs.Grammar.Lexemes.{Lexeme};
 ghost use Rattle.c_tree.specs.Grammar.Texts.{IsText};
-ghost use Rattle.c_tree.specs.Grammar.Tokens.{Text};
+ghost use Rattle.c_tree.specs.Grammar.Tokens.{Text, is_printed};
 ghost use Rattle.c_tree.specs.Grammar.Units.{IsUnit};
 ghost use Rattle.c_tree.specs.Layout.{layout};
 ghost use Rattle.c_tree.specs.Plain.{PlainUnit};
@@ -33,6 +33,11 @@ pub fn layout_is_read()
 {
     trees_are_units();
 }
+
+/// A text has a printed unit where it begins with the preamble, and else the unit of a source.
+pub fn preamble_tells_the_version()
+    ensures { (text : Text) (u : PlainUnit) → IsText text u → is_some u.version ≡ is_printed text }
+{}
 
 /// There are such texts, of a source and of a printed unit.
 pub fn there_are_texts()
