@@ -6,7 +6,7 @@ use Rattle.balance_cli.specs.Calls.{IsWritten, IsTold, IsEnding, IsAnswer, IsCal
 use Rattle.command_line.specs.Tried.{Tries}
 use Rattle.command_line.specs.Lines.{line_of}
 use Rattle.balance_cli.specs.Met.{Met, files_before}
-use Rattle.command_line.specs.Orders.{Order, print, run_file, attempt, files_of}
+use Rattle.command_line.specs.Orders.{Order, print, run_file, attempt, report, files_of}
 use Rattle.balance_cli.specs.Plans.{Files, plan_of, Follows, AsksOnly, Ends, Defined}
 use Rattle.command_line.specs.Statuses.{status_of, finish_status, ideal_status}
 use Rattle.balance_cli.specs.Table.{Cause, IsDone, AsksInOrder, IsQuiet, IsFulfilled, IsComplete, IsCalm, EndsAsDefined}
@@ -113,6 +113,7 @@ plan_asks : (order : Order) → AsksOnly (plan_of order) (files_of order)
 plan_asks (print source) = (refl, λ text unit. tt)
 plan_asks (run_file file input) = (refl, λ text unit. (refl, λ bytes inputs. tt))
 plan_asks (attempt source input) = (refl, λ text unit. (refl, λ bytes inputs. tt))
+plan_asks (report source) = (refl, λ text unit. tt)
 
 no_order_asks : (m : Met) (ends : Status) → IsAnswer None m ends → m.shelf ≡ m.shelf_before
 no_order_asks m ends (inl misused) = misused.1.unread

@@ -5,7 +5,6 @@ use Rattle.edge.specs.Causes.{Rose}
 use Rattle.edge.specs.Shelf.{Told}
 use Rattle.c_tree.specs.Inputs.{PlainInputs}
 use Rattle.c_tree.specs.Plain.{PlainUnit}
-use Rattle.c_tree.specs.OneLoop.{IsOneLoop}
 use Rattle.c_tree.specs.Trees.{unit}
 use Rattle.c_tree.specs.declared.refusal.Refusal.{Refusal}
 use Rattle.c_tree.specs.declared.refusal.Refusal.TheVariants as refusal
@@ -23,10 +22,6 @@ use Rattle.balance_cli.specs.Sources.{Accepts, IsSourceWhy}
 use Rattle.balance_cli.specs.Stages.{IsLoad, IsJudged, IsTaken, IsRead}
 use Rattle.balance_cli.specs.Whys.{Why, of_source, of_data, StopsFor}
 use Rattle.balance_cli.specs.declared.judging.Wanted.{Wanted}
-
--- an accepted source is of the one-loop form
-pub form_of_accepted : (text : List ℕ) (u : PlainUnit) → Accepts text u → IsOneLoop u
-form_of_accepted text u is = is.one_loop
 
 -- a count that rose after an earlier value rose since then
 rose_over : (first middle last : ℕ) → first ≤ middle → Rose middle last → Rose first last
@@ -132,12 +127,12 @@ judged_at kind text seen result same one = subst (λ (t : List ℕ). IsJudged ki
 -- one that is accepted, and the rest of the plan
 pub follows_judged : (kind : Wanted) (text seen : List ℕ) (next : PlainUnit → Plan) (before now : Told) (u : TheUnit) (outcome : Result Output Stop) → seen ≡ text → IsJudged kind seen (Ok u) → Follows (next (unit u)) before now outcome → Follows (judge kind text next) before now outcome
 follows_judged kind text seen next before now u outcome same one rest =
-    follows_answered (Accepts text) (IsSourceWhy kind text) next before now (unit u) outcome (judged_at kind text seen (Ok u) same one) rest
+    follows_answered (Accepts kind text) (IsSourceWhy kind text) next before now (unit u) outcome (judged_at kind text seen (Ok u) same one) rest
 
 -- one that is refused
 pub follows_refused : (kind : Wanted) (text seen : List ℕ) (next : PlainUnit → Plan) (now : Told) (cause : Stop) → seen ≡ text → IsJudged kind seen (Err cause) → Follows (judge kind text next) now now (Err cause)
 follows_refused kind text seen next now cause same one =
-    follows_stopped (Accepts text) (IsSourceWhy kind text) next now cause (judged_at kind text seen (Err cause) same one)
+    follows_stopped (Accepts kind text) (IsSourceWhy kind text) next now cause (judged_at kind text seen (Err cause) same one)
 
 -- ---- data texts
 

@@ -19,10 +19,11 @@ use Rattle.data_file.specs.Texts.{output_text}
 use Rattle.data_file.specs.declared.refusal.DataRefusal.{DataRefusal}
 use Rattle.guard_laws.specs.Guards.{OneLoopIsGuarded}
 use Rattle.instrumentation.specs.Guarded.{guarded}
+use Rattle.reports.specs.Texts.{report_text}
 use Rattle.interp.specs.Finished.{inputs_in, verdict_in, IsEnded}
 use Rattle.interp.specs.Machine.{counted}
 use Rattle.command_line.specs.DataRefusals.{data_refusal_text}
-use Rattle.command_line.specs.Orders.{Order, print, run_file, attempt}
+use Rattle.command_line.specs.Orders.{Order, print, run_file, attempt, report}
 use Rattle.command_line.specs.Statuses.{status_of}
 use Rattle.command_line.specs.declared.outcome.Finish.TheVariants.{Done}
 use Rattle.command_line.specs.declared.outcome.Output.{Output}
@@ -30,6 +31,7 @@ use Rattle.balance_cli.specs.Frames.{frame_in}
 use Rattle.balance_cli.specs.Inputs.{IsMeant, IsDataRefused, IsDataWhy, carried}
 use Rattle.balance_cli.specs.Plans.{plan_of}
 use Rattle.balance_cli.specs.Printed.{IsPrinted}
+use Rattle.balance_cli.specs.Reports.{IsReported}
 use Rattle.balance_cli.specs.Runs.{finish_of, IsRun, IsTried}
 use Rattle.balance_cli.specs.Sources.{Accepts, Refuses, IsSourceWhy}
 use Rattle.balance_cli.specs.Whys.{Why, of_source, of_data, stop_for}
@@ -126,6 +128,7 @@ tried_text laws source inputs form =
       record {
         unit = guarded source;
         made = refl;
+        is_text = laws.printed source form;
         head = made_head source (guarded source) refl;
         accepted = laws.accepted source form;
         stores = laws.stores source form;
@@ -154,13 +157,19 @@ run_given source inputs = record { some = run_text source inputs; same = λ o p 
 tried_given : Laws → (source : PlainUnit) (inputs : PlainInputs) → IsOneLoop source → IsGiven (IsTried source inputs)
 tried_given laws source inputs form = record { some = tried_text laws source inputs form; same = tried_once source inputs }
 
+report_given : (source : PlainUnit) → IsGiven (IsReported source)
+report_given source = record {
+  some = (record { text = report_text source; finish = Done }, record { text = refl; done = refl });
+  same = λ o p one two. one.done ∙ sym two.done;
+}
+
 -- ---- source texts
 
-source_why : (kind : Wanted) (text : List ℕ) → ((a : PlainUnit) × Accepts text a) ⊎ ((why : Refusal) × Refuses kind text why) → ((a : PlainUnit) × Accepts text a) ⊎ ((why : Why) × IsSourceWhy kind text why)
+source_why : (kind : Wanted) (text : List ℕ) → ((a : PlainUnit) × Accepts kind text a) ⊎ ((why : Refusal) × Refuses kind text why) → ((a : PlainUnit) × Accepts kind text a) ⊎ ((why : Why) × IsSourceWhy kind text why)
 source_why kind text (inl taken) = inl taken
 source_why kind text (inr refused) = inr (of_source refused.0, refused.1)
 
-source_apart : TextLaws → (kind : Wanted) (text : List ℕ) (a : PlainUnit) (why : Why) → Accepts text a → IsSourceWhy kind text why → ⊥
+source_apart : TextLaws → (kind : Wanted) (text : List ℕ) (a : PlainUnit) (why : Why) → Accepts kind text a → IsSourceWhy kind text why → ⊥
 source_apart laws kind text a (of_source why) one two = judged_once laws kind text a why one two
 source_apart laws kind text a (of_data words) one two = two
 
@@ -169,7 +178,7 @@ source_status kind text (of_source v) (of_source w) one two = refl
 source_status kind text (of_data v) w one two = absurd one
 source_status kind text (of_source v) (of_data w) one two = absurd two
 
-judged_decided : TextLaws → (kind : Wanted) (text : List ℕ) → IsDecided (Accepts text) (IsSourceWhy kind text)
+judged_decided : TextLaws → (kind : Wanted) (text : List ℕ) → IsDecided (Accepts kind text) (IsSourceWhy kind text)
 judged_decided laws kind text = record {
   some = source_why kind text (taken_or_refused laws kind text);
   apart = source_apart laws kind text;
@@ -226,12 +235,13 @@ read_decided laws head text form = record {
 
 pub plan_is_sound : Laws → (order : Order) → IsSound (plan_of order)
 unfolding IsSound
-plan_is_sound laws (print source) = λ text within. (judged_decided laws.texts wanted.Source text, λ unit is. printed_given laws unit is.one_loop)
+plan_is_sound laws (print source) = λ text within. (judged_decided laws.texts wanted.Source text, λ unit is. printed_given laws unit is.built)
 plan_is_sound laws (run_file file input) = λ text within. (
   judged_decided laws.texts wanted.AnyText text,
-  λ unit is bytes few. (read_decided laws unit bytes is.one_loop, λ inputs meant. run_given unit inputs),
+  λ unit is bytes few. (read_decided laws unit bytes is.built, λ inputs meant. run_given unit inputs),
 )
 plan_is_sound laws (attempt source input) = λ text within. (
   judged_decided laws.texts wanted.Source text,
-  λ unit is bytes few. (read_decided laws unit bytes is.one_loop, λ inputs meant. tried_given laws unit inputs is.one_loop),
+  λ unit is bytes few. (read_decided laws unit bytes is.built, λ inputs meant. tried_given laws unit inputs is.built),
 )
+plan_is_sound laws (report source) = λ text within. (judged_decided laws.texts wanted.AnySource text, λ unit is. report_given unit)

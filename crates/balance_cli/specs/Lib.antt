@@ -4,6 +4,7 @@ pub mod Inputs
 pub mod Met
 pub mod Plans
 pub mod Printed
+pub mod Reports
 pub mod Runs
 pub mod Sources
 pub mod Stages

@@ -6,7 +6,7 @@ use Rattle.edge.specs.Shelf.{Told}
 use Rattle.c_tree.specs.Inputs.{PlainInputs}
 use Rattle.c_tree.specs.Plain.{PlainUnit}
 use Rattle.command_line.specs.Lines.{limit_of}
-use Rattle.command_line.specs.Orders.{Order, print, run_file, attempt}
+use Rattle.command_line.specs.Orders.{Order, print, run_file, attempt, report}
 use Rattle.command_line.specs.declared.outcome.FileWord.{FileWord}
 use Rattle.command_line.specs.declared.outcome.FileWord.TheVariants.{Source, File, Data}
 use Rattle.command_line.specs.declared.outcome.Output.{Output}
@@ -14,6 +14,7 @@ use Rattle.command_line.specs.declared.outcome.Stop.{Stop}
 use Rattle.command_line.specs.declared.outcome.Stop.TheVariants.{ReadFault, TooLong, NoMemory}
 use Rattle.balance_cli.specs.Inputs.{IsMeant, IsDataWhy}
 use Rattle.balance_cli.specs.Printed.{IsPrinted}
+use Rattle.balance_cli.specs.Reports.{IsReported}
 use Rattle.balance_cli.specs.Runs.{IsRun, IsTried}
 use Rattle.balance_cli.specs.Sources.{Accepts, IsSourceWhy}
 use Rattle.balance_cli.specs.Whys.{Why, stop_for}
@@ -30,7 +31,7 @@ pub data Plan : Type 1 where
 
 -- judge a text, of which a source or any text is wanted, and go on with its unit
 abbrev pub judge : Wanted → List ℕ → (PlainUnit → Plan) → Plan
-judge kind text next = ask (Accepts text) (IsSourceWhy kind text) next
+judge kind text next = ask (Accepts kind text) (IsSourceWhy kind text) next
 
 -- read a data text by the head of a unit, and go on with its inputs
 abbrev pub read : PlainUnit → List ℕ → (PlainInputs → Plan) → Plan
@@ -39,6 +40,9 @@ read head text next = ask (IsMeant head text) (IsDataWhy head text) next
 -- the last stages
 abbrev pub printing : PlainUnit → Plan
 printing unit = give (IsPrinted unit)
+
+abbrev pub reporting : PlainUnit → Plan
+reporting unit = give (IsReported unit)
 
 abbrev pub running : PlainUnit → PlainInputs → Plan
 running unit inputs = give (IsRun unit inputs)
@@ -54,6 +58,7 @@ abbrev pub plan_of : Order → Plan
 plan_of (print source) = load Source source (λ text. judge wanted.Source text printing)
 plan_of (run_file file input) = load File file (λ text. judge wanted.AnyText text (on_data input running))
 plan_of (attempt source input) = load Source source (λ text. judge wanted.Source text (on_data input trying))
+plan_of (report source) = load Source source (λ text. judge wanted.AnySource text reporting)
 
 -- ---- files, where they are told
 

@@ -1,6 +1,8 @@
 -- The output of a run, of a source and of its instrumented unit: which properties it has, whatever it is.
 use Rattle.std.specs.Prelude.{◌≡◌, None}
+use Rattle.c_tree.specs.Grammar.Texts.{IsText}
 use Rattle.c_tree.specs.Inputs.{PlainInputs}
+use Rattle.c_tree.specs.Layout.{layout}
 use Rattle.c_tree.specs.Plain.{PlainUnit}
 use Rattle.c_tree.specs.Run.{run, End, plain, balanced, fault, index, outside}
 use Rattle.c_tree.specs.declared.frame.Frame.{Frame}
@@ -36,10 +38,11 @@ pub record IsRun (source : PlainUnit) (inputs : PlainInputs) (output : Output) :
   pub text : output.text ≡ output_text (frame_in source) ended
   pub finish : output.finish ≡ finish_of (run source inputs None).verdict
 
--- The output of the run of a source's instrumented unit, which is one that could be printed.
+-- The output of the run of a source's instrumented unit, of which all holds that does of one that is printed.
 pub record IsTried (source : PlainUnit) (inputs : PlainInputs) (output : Output) : Type 0 where
   pub unit : PlainUnit
   pub made : unit ≡ guarded source
+  pub is_text : IsText (layout unit) unit
   pub head : HasHeadOf source unit
   pub accepted : IsAcceptedPrinted unit
   pub stores : StoresNothingBefore unit

@@ -1,5 +1,7 @@
 -- Which texts a command takes, with which unit, and which it refuses.
-use Rattle.std.specs.Prelude.{◌≡◌, ◌⊎◌, ℕ, Bool, true, false, List}
+use Rattle.std.specs.Prelude.{◌≡◌, ◌⊎◌, ℕ, Bool, true, false, List, Option, Some, None}
+use Rattle.acceptance.specs.Items.{lowest}
+use Rattle.acceptance.specs.Sources.{IsAcceptedSource, judged}
 use Rattle.c_tree.specs.Grammar.Texts.{IsText}
 use Rattle.c_tree.specs.Grammar.Tokens.{AreTokens, StopsAt, is_printed}
 use Rattle.c_tree.specs.OneLoop.{IsOneLoop}
@@ -8,14 +10,29 @@ use Rattle.c_tree.specs.declared.refusal.Refusal.{Refusal}
 use Rattle.c_tree.specs.declared.refusal.Refusal.TheVariants as refusal
 use Rattle.c_tree.specs.declared.token.Token.{Token}
 use Rattle.c_parser.specs.Answers.{HasNoUnit}
+use Rattle.kernel_check.specs.Judging.{IsLowest, printed_judged}
 use Rattle.balance_cli.specs.Whys.{Why, of_source, of_data}
 use Rattle.balance_cli.specs.declared.judging.Wanted.{Wanted}
-use Rattle.balance_cli.specs.declared.judging.Wanted.TheVariants.{Source, AnyText}
+use Rattle.balance_cli.specs.declared.judging.Wanted.TheVariants.{Source, AnyText, AnySource}
 
--- The text has a unit of the form that is built.
-pub record Accepts (text : List ℕ) (unit : PlainUnit) : Type 0 where
+-- the numbers of the refusals of a unit, with the least item of each: those of a source, or of a printed unit
+abbrev pub judged_by : Option ℕ → PlainUnit → List (ℕ × Option ℕ)
+judged_by None u = judged u
+judged_by (Some v) u = printed_judged u
+
+abbrev pub judged_of : PlainUnit → List (ℕ × Option ℕ)
+judged_of u = judged_by u.version u
+
+-- what is built for a command: the one-loop form, and for a report every accepted source
+abbrev pub IsBuilt : Wanted → PlainUnit → Type 0
+IsBuilt Source u = IsOneLoop u
+IsBuilt AnyText u = IsOneLoop u
+IsBuilt AnySource u = IsAcceptedSource u
+
+-- The text has a unit of a form that is built.
+pub record Accepts (wanted : Wanted) (text : List ℕ) (unit : PlainUnit) : Type 0 where
   pub is_text : IsText text unit
-  pub one_loop : IsOneLoop unit
+  pub built : IsBuilt wanted unit
 
 -- A printed text, where a source is wanted.
 pub record IsMisplaced (text : List ℕ) (byte : ℕ) : Type 0 where
@@ -24,36 +41,47 @@ pub record IsMisplaced (text : List ℕ) (byte : ℕ) : Type 0 where
   pub printed : is_printed text ≡ true
   pub at_start : byte ≡ 0
 
--- The text has a unit of a form that isn't built yet.
+-- The text has a unit that no number refuses, of a form that isn't built yet.
 pub record IsUnbuilt (text : List ℕ) : Type 0 where
   pub unit : PlainUnit
   pub is_text : IsText text unit
+  pub accepted : lowest (judged_of unit) ≡ None
   pub other : IsOneLoop unit → ⊥
+
+-- The text has a unit that this refuses: the lowest number that holds anywhere, with its least item.
+pub record IsRefusedUnit (text : List ℕ) (why : Refusal) : Type 0 where
+  pub unit : PlainUnit
+  pub is_text : IsText text unit
+  pub lowest_is : IsLowest unit (judged_of unit) why
 
 abbrev pub misplaced : Wanted → List ℕ → Bool
 misplaced Source text = is_printed text
 misplaced AnyText text = false
+misplaced AnySource text = is_printed text
 
 -- where the command takes a source alone, and where it takes a printed text too
-abbrev pub HasNoUnitFor : Wanted → List ℕ → ℕ → Type 0
-HasNoUnitFor Source text byte = IsMisplaced text byte ⊎ ((is_printed text ≡ false) × HasNoUnit text byte)
-HasNoUnitFor AnyText text byte = HasNoUnit text byte
+abbrev pub IsInPlace : Wanted → List ℕ → Type 0
+IsInPlace wanted text = misplaced wanted text ≡ false
 
+abbrev pub HasNoUnitFor : Wanted → List ℕ → ℕ → Type 0
+HasNoUnitFor AnyText text byte = HasNoUnit text byte
+HasNoUnitFor wanted text byte = IsMisplaced text byte ⊎ (IsInPlace wanted text × HasNoUnit text byte)
+
+-- A report never is for want of a form.
 abbrev pub IsUnbuiltFor : Wanted → List ℕ → Type 0
-IsUnbuiltFor Source text = (is_printed text ≡ false) × IsUnbuilt text
-IsUnbuiltFor AnyText text = IsUnbuilt text
+IsUnbuiltFor AnySource text = ⊥
+IsUnbuiltFor wanted text = IsInPlace wanted text × IsUnbuilt text
 
 -- a refusal of a printed text where a source is wanted
 abbrev pub at_start : Refusal → Refusal
 at_start (refusal.Syntax byte) = refusal.Syntax 0
 at_start why = why
 
--- Nothing else is refused so far.
 abbrev pub Refuses : Wanted → List ℕ → Refusal → Type 0
 Refuses wanted text (refusal.Lexical byte) = StopsAt text byte
 Refuses wanted text (refusal.Syntax byte) = HasNoUnitFor wanted text byte
 Refuses wanted text refusal.Unbuilt = IsUnbuiltFor wanted text
-Refuses wanted text _ = ⊥
+Refuses wanted text why = IsInPlace wanted text × IsRefusedUnit text why
 
 -- the reasons for which a text is refused
 abbrev pub IsSourceWhy : Wanted → List ℕ → Why → Type 0

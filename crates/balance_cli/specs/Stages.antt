@@ -40,12 +40,12 @@ IsLoad word name before now (Err NoMemory) = Asks before now []
 
 -- one text, of which a source or any text is wanted
 abbrev pub IsJudged : Wanted → List ℕ → Result TheUnit Stop → Type 0
-IsJudged kind text (Ok u) = Accepts text (unit u)
+IsJudged kind text (Ok u) = Accepts kind text (unit u)
 IsJudged kind text (Err cause) = StopsFor (IsSourceWhy kind text) cause
 
 -- the same with the refusal as it is
 abbrev pub IsTaken : Wanted → List ℕ → Result TheUnit Refusal → Type 0
-IsTaken kind text (Ok u) = Accepts text (unit u)
+IsTaken kind text (Ok u) = Accepts kind text (unit u)
 IsTaken kind text (Err refusal.OutOfMemory) = Unit {0}
 IsTaken kind text (Err why) = Refuses kind text why
 

@@ -18,10 +18,12 @@ use command_line::{
 use data_file::{one_answer, some_answer};
 use edge::{Shelf, Sink, write_all};
 use grammar_reading::unit_or_none;
+use kernel_check::refused_or_not;
+use layout_laws::preamble_tells_the_version;
 use guard_laws::one_loop_guards;
 use one_loop::one_loop_or_not;
 use std::alloc::Global;
-use tree_texts::instrumented_units_have_texts;
+use tree_texts::{instrumented_units_have_texts, texts_have_trees};
 
 fn refused<E: Sink>(alloc: Global, command: Command<'_>, cause: &Stop, err: &mut E) -> Status
     ensures { IsTold (ordered command.entry) cause.now (E.held err.old) (E.held err.new) result }
@@ -95,6 +97,9 @@ pub fn balance<F: Shelf, O: Sink, E: Sink>(
     one_unit();
     unit_or_none();
     one_loop_or_not();
+    preamble_tells_the_version();
+    texts_have_trees();
+    refused_or_not();
     one_answer();
     some_answer();
     one_loop_guards();

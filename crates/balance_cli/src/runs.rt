@@ -17,6 +17,7 @@ use edge::ByteList;
 use interp::run;
 use rewrite::instrument_one;
 use std::alloc::Global;
+use tree_texts::instrumented_units_have_texts;
 
 fn finish_of(verdict: &Verdict) -> Finish
     ensures { result ≡ finish_at (verdict_in verdict.now) }
@@ -56,6 +57,7 @@ pub fn tried(alloc: Global, source: &Unit, inputs: &Inputs) -> Result<Output, St
     requires fits { Fit (unit_in source.now) (inputs_in inputs.now) }
     ensures { MatchResult result (IsTried (unit_in source.now) (inputs_in inputs.now)) (λ cause. cause ≡ NoMemory) }
 {
+    instrumented_units_have_texts();
     let frame = frame_of(alloc, source)?;
     let guarded = instrument_one(alloc, source)?;
     let ended = run(alloc, &guarded, inputs, None)?;

@@ -1,12 +1,14 @@
 //! The stages of a command, up to the text that it writes.
 
 ghost use Rattle.std.specs.Prelude.{◌≡◌, ◌≤◌, MatchResult, length};
+ghost use Rattle.acceptance.specs.Sources.{IsAcceptedSource};
 ghost use Rattle.c_tree.specs.OneLoop.{IsOneLoop};
 ghost use Rattle.c_tree.specs.Trees.{unit as unit_in};
 ghost use Rattle.command_line.specs.Commands.{ordered};
-ghost use Rattle.command_line.specs.Orders.{print as print_order, run_file as run_order, attempt as attempt_order};
+ghost use Rattle.command_line.specs.Orders.{print as print_order, run_file as run_order, attempt as attempt_order, report as report_order};
 ghost use Rattle.balance_cli.specs.Plans.{Follows, plan_of};
 ghost use Rattle.balance_cli.specs.Printed.{IsPrinted};
+ghost use Rattle.balance_cli.specs.Reports.{IsReported};
 ghost use Rattle.balance_cli.specs.Stages.{IsLoad, IsJudged};
 ghost use Rattle.command_line.specs.declared.outcome.Stop.TheVariants.{NoMemory};
 
@@ -92,6 +94,25 @@ fn attempt<F: Shelf>(
     tried(alloc, &unit, &inputs)
 }
 
+fn reported(alloc: Global, source: &Unit) -> Result<Output, Stop>
+    requires { IsAcceptedSource (unit_in source.now) }
+    ensures { MatchResult result (IsReported (unit_in source.now)) (λ cause. cause ≡ NoMemory) }
+{
+    let text = reports::report(alloc, source)?;
+    Ok(Output {
+        text: ByteList::new(text),
+        finish: Finish::Done,
+    })
+}
+
+fn report<F: Shelf>(alloc: Global, source: &str, shelf: &mut F) -> Result<Output, Stop>
+    ensures { Follows (plan_of (report_order source.now)) (F.told shelf.old) (F.told shelf.new) result }
+{
+    let text = loaded(alloc, FileWord::Source, source, shelf)?;
+    let unit = judged(alloc, Wanted::AnySource, text.as_slice())?;
+    reported(alloc, &unit)
+}
+
 /// The stages of a command, in order. The first that fails ends it.
 pub fn prepared<F: Shelf>(
     alloc: Global,
@@ -104,5 +125,6 @@ pub fn prepared<F: Shelf>(
         Command::Print { source } => print(alloc, source, shelf),
         Command::Run { file, input } => run_file(alloc, file, input, shelf),
         Command::Attempt { source, input } => attempt(alloc, source, input, shelf),
+        Command::Report { source } => report(alloc, source, shelf),
     }
 }

@@ -431,18 +431,18 @@ fn data_file(text: &'static str) -> Source {
     }
 }
 
-const D1: &str = "n = 4\nA = 5 0 0 0\n";
+const SHIFT_DATA: &str = "n = 4\nA = 5 0 0 0\n";
 
 const BALANCED: &str = "A = 5 6 7 8\nbalanced\n";
 
 #[test]
 fn runs_on_data(rt: HostRuntime) -> Result<(), Fail> {
     for (source, line, values, status, text) in [
-        (SHIFT_FILE, "try shift.c d1", D1, Status::Done, BALANCED),
+        (SHIFT_FILE, "try shift.c d1", SHIFT_DATA, Status::Done, BALANCED),
         (
             SHIFT_FILE,
             "run shift.c d1",
-            D1,
+            SHIFT_DATA,
             Status::Done,
             "A = 5 6 7 8\nplain\n",
         ),
@@ -456,7 +456,7 @@ fn runs_on_data(rt: HostRuntime) -> Result<(), Fail> {
         (
             WIDE_FILE,
             "try wide.c d1",
-            D1,
+            SHIFT_DATA,
             Status::Outside,
             "A = 5 6 7 8\noutside A\n",
         ),
@@ -509,7 +509,7 @@ fn stops_at_a_second_load_that_fails(rt: HostRuntime) -> Result<(), Fail> {
     let failing = Failing { load: 2, ..NONE };
     let left = call(
         rt.alloc(),
-        &[SHIFT_FILE, data_file(D1)],
+        &[SHIFT_FILE, data_file(SHIFT_DATA)],
         "try shift.c d1",
         failing,
     )?;
@@ -529,7 +529,7 @@ fn stops_within(
     failing: Failing,
     length: usize,
 ) -> Result<(), Fail> {
-    let files = [SHIFT_FILE, data_file(D1)];
+    let files = [SHIFT_FILE, data_file(SHIFT_DATA)];
     let left = call(alloc, &files, "try shift.c d1", failing)?;
     let whole = BALANCED.as_bytes();
     assert_eq!(rt; left.status, Status::WriteFault, "{length} bytes");
@@ -569,7 +569,7 @@ fn writes_a_prefix_where_a_write_fails(rt: HostRuntime) -> Result<(), Fail> {
 
 // A row of each declared name, and behind them rows of a name that isn't declared.
 fn many_names(alloc: Global) -> Result<NamedFile, Fail> {
-    let mut bytes = Vec::from_slice(alloc, D1.as_bytes())?;
+    let mut bytes = Vec::from_slice(alloc, SHIFT_DATA.as_bytes())?;
     for _ in 0..10_000 {
         bytes.extend_from_slice(b"b = 1\n")?;
     }

@@ -1,5 +1,5 @@
 use Rattle.balance_cli.proofs.Clauses.{caused, misused_only, misused, asked, complete, determined_end}
-use Rattle.balance_cli.proofs.TextLaws.{units_of}
+use Rattle.balance_cli.proofs.TextLaws.{refused_as, units_of}
 use Rattle.balance_cli.proofs.call.balance.Goals as goal
 
 pub returns-clause-cause : goal.returns-clause-cause
@@ -22,6 +22,10 @@ returns-clause-complete g c = complete (record {
     tokens = c.one_reading.ensures.tokens_or_stop;
     units = units_of c.one_reading.ensures.tokens_or_stop c.one_reading.ensures.not_both c.one_reading.ensures.one_list c.unit_or_none.ensures;
     forms = c.one_loop_or_not.ensures;
+    versions = c.preamble_tells_the_version.ensures;
+    trees = c.texts_have_trees.ensures;
+    refused = refused_as c.refused_or_not.ensures.source c.refused_or_not.ensures.printed;
+    accepted = c.one_loop_is_regular.ensures.source;
   };
   one_answer = c.one_answer.ensures;
   some_answer = c.some_answer.ensures;
@@ -39,6 +43,10 @@ returns-clause-determined g c = determined_end (record {
     tokens = c.one_reading.ensures.tokens_or_stop;
     units = units_of c.one_reading.ensures.tokens_or_stop c.one_reading.ensures.not_both c.one_reading.ensures.one_list c.unit_or_none.ensures;
     forms = c.one_loop_or_not.ensures;
+    versions = c.preamble_tells_the_version.ensures;
+    trees = c.texts_have_trees.ensures;
+    refused = refused_as c.refused_or_not.ensures.source c.refused_or_not.ensures.printed;
+    accepted = c.one_loop_is_regular.ensures.source;
   };
   one_answer = c.one_answer.ensures;
   some_answer = c.some_answer.ensures;

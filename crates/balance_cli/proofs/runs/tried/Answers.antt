@@ -1,11 +1,11 @@
-use Rattle.std.proofs.Common.{ap, sym, subst, ◌∙◌}
+use Rattle.std.proofs.Common.{ap, refl, sym, subst, ◌∙◌}
 use Rattle.c_tree.specs.Plain.{PlainUnit}
 use Rattle.c_tree.specs.Trees.{unit}
 use Rattle.data_file.specs.Texts.{output_text}
 use Rattle.interp.specs.Finished.{inputs_in}
 use Rattle.balance_cli.specs.Runs.{finish_of}
 use Rattle.balance_cli.proofs.Framed.{few_params, few_made}
-use Rattle.balance_cli.proofs.Heads.{made_head}
+use Rattle.balance_cli.proofs.Heads.{made_head, spelled_by}
 use Rattle.balance_cli.proofs.Named.{AllUnchecked}
 use Rattle.balance_cli.proofs.Shown.{ends_of, weaker}
 use Rattle.balance_cli.proofs.Unchecked.{guarded_unchecked}
@@ -29,6 +29,7 @@ returns c =
     weaker _ c.shown.result (λ output is. record {
       unit = unit c.in_ok-guarded.guarded;
       made = c.in_ok-guarded.ensures.made;
+      is_text = spelled_by _ _ _ c.instrumented_units_have_texts.ensures.one_loop c.requires.form c.in_ok-guarded.ensures.made refl;
       head = made_head _ _ c.in_ok-guarded.ensures.made;
       accepted = c.in_ok-guarded.ensures.accepted;
       stores = c.in_ok-guarded.ensures.stores;

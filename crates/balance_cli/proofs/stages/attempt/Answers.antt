@@ -2,7 +2,7 @@ use Rattle.std.proofs.lemmas.Result.{err_from_is_err_and}
 use Rattle.c_tree.specs.Trees.{unit}
 use Rattle.interp.specs.Finished.{inputs_in}
 use Rattle.balance_cli.proofs.Framed.{fits_meant}
-use Rattle.balance_cli.proofs.Plans.{form_of_accepted, follows_load, follows_stop, follows_judged, follows_refused, follows_read, follows_unread, follows_given}
+use Rattle.balance_cli.proofs.Plans.{follows_load, follows_stop, follows_judged, follows_refused, follows_read, follows_unread, follows_given}
 use Rattle.balance_cli.specs.Plans.{read, trying, on_data}
 use Rattle.balance_cli.specs.declared.judging.Wanted.TheVariants.{Source}
 use Rattle.command_line.specs.declared.outcome.FileWord.TheVariants.{Data}
@@ -44,4 +44,4 @@ returns g c =
 
 pub tried-requires-clause-fits : goal.tried-requires-clause-fits
 tried-requires-clause-fits g c =
-    fits_meant (unit c.in_ok-unit.unit) _ (inputs_in c.in_ok-inputs.inputs) (form_of_accepted _ (unit c.in_ok-unit.unit) c.in_ok-unit.ensures) c.in_ok-inputs.ensures
+    fits_meant (unit c.in_ok-unit.unit) _ (inputs_in c.in_ok-inputs.inputs) c.in_ok-unit.ensures.built c.in_ok-inputs.ensures
