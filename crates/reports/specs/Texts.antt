@@ -1,5 +1,6 @@
 -- The text of a report: a line for each array in declared order, NAME CLASS reads R writes W, each ended by a line feed.
--- R and W are how many read sites and write sites the text has of it, as plain decimals. One space stands between the pieces.
+-- R and W are how many read sites and write sites the text has of it, as plain decimals: an old cell of a compound assignment
+-- and an index cell are reads. One space stands between the pieces.
 use Rattle.std.specs.Prelude.{ℕ, List, [], ◌∷◌, ◌++◌, codes, decimal}
 use Rattle.c_tree.specs.Names.{arrays_in}
 use Rattle.c_tree.specs.Plain.{Word, PlainParam, int_param, array_param, PlainUnit}
