@@ -18,9 +18,9 @@ use command_line::{
 use data_file::{one_answer, some_answer};
 use edge::{Shelf, Sink, write_all};
 use grammar_reading::unit_or_none;
+use guard_laws::one_loop_guards;
 use kernel_check::refused_or_not;
 use layout_laws::preamble_tells_the_version;
-use guard_laws::one_loop_guards;
 use one_loop::one_loop_or_not;
 use std::alloc::Global;
 use tree_texts::{instrumented_units_have_texts, texts_have_trees};

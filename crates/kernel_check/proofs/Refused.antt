@@ -44,33 +44,79 @@ of_count u None is item h = absurd (no_item item h)
 of_count u (Some e) is item h = record { why = r.TooMany e.counted e.count e.item; number = refl; carried = ap (λ (k : ℕ). Some k) (same_item e item h); counted = is }
 
 pub source_answer : (u : PlainUnit) → Answer u (judged u)
-source_answer u = answer u (judged u)
-    (λ item h. record { why = r.NameTwice item; number = refl; carried = refl; counted = tt },
-    (λ item h. record { why = r.NameUnknown item; number = refl; carried = refl; counted = tt },
-    (λ item h. record { why = r.ReservedName item; number = refl; carried = refl; counted = tt },
-    (λ item h. record { why = r.BadRange item; number = refl; carried = refl; counted = tt },
-    (of_count u (too_many u) refl,
-    (λ item h. record { why = r.NotAffine item; number = refl; carried = refl; counted = tt },
-    (λ item h. record { why = r.CoefficientTooLarge item; number = refl; carried = refl; counted = tt },
-    (λ item h. record { why = r.IntervalTooWide item; number = refl; carried = refl; counted = tt },
-    (λ item h. record { why = r.ExtentNotPositive item; number = refl; carried = refl; counted = tt },
-    (λ item h. record { why = r.WrongDimensions item; number = refl; carried = refl; counted = tt },
-    (λ item h. record { why = r.WriteToConst item; number = refl; carried = refl; counted = tt },
-    (λ item h. record { why = r.BadIndexArray item; number = refl; carried = refl; counted = tt },
-    (λ item h. record { why = r.BadLiteral item; number = refl; carried = refl; counted = tt },
-    (λ item h. record { why = r.IrregularWrite item; number = refl; carried = refl; counted = tt },
-    tt))))))))))))))
+source_answer u = answer u (judged u) (
+  λ item h. record { why = r.NameTwice item; number = refl; carried = refl; counted = tt },
+  (
+    λ item h. record { why = r.NameUnknown item; number = refl; carried = refl; counted = tt },
+    (
+      λ item h. record { why = r.ReservedName item; number = refl; carried = refl; counted = tt },
+      (
+        λ item h. record { why = r.BadRange item; number = refl; carried = refl; counted = tt },
+        (
+          of_count u (too_many u) refl,
+          (
+            λ item h. record { why = r.NotAffine item; number = refl; carried = refl; counted = tt },
+            (
+              λ item h. record { why = r.CoefficientTooLarge item; number = refl; carried = refl; counted = tt },
+              (
+                λ item h. record { why = r.IntervalTooWide item; number = refl; carried = refl; counted = tt },
+                (
+                  λ item h. record { why = r.ExtentNotPositive item; number = refl; carried = refl; counted = tt },
+                  (
+                    λ item h. record { why = r.WrongDimensions item; number = refl; carried = refl; counted = tt },
+                    (
+                      λ item h. record { why = r.WriteToConst item; number = refl; carried = refl; counted = tt },
+                      (
+                        λ item h. record { why = r.BadIndexArray item; number = refl; carried = refl; counted = tt },
+                        (
+                          λ item h. record { why = r.BadLiteral item; number = refl; carried = refl; counted = tt },
+                          (
+                            λ item h. record { why = r.IrregularWrite item; number = refl; carried = refl; counted = tt },
+                            tt,
+                          ),
+                        ),
+                      ),
+                    ),
+                  ),
+                ),
+              ),
+            ),
+          ),
+        ),
+      ),
+    ),
+  ),
+)
 
 pub printed_answer : (u : PlainUnit) → Answer u (printed_judged u)
-printed_answer u = answer u (printed_judged u)
-    (λ item h. record { why = r.NameTwice item; number = refl; carried = refl; counted = tt },
-    (λ item h. record { why = r.NameUnknown item; number = refl; carried = refl; counted = tt },
-    (λ item h. record { why = r.BadRange item; number = refl; carried = refl; counted = tt },
-    (λ item h. record { why = r.NotAffine item; number = refl; carried = refl; counted = tt },
-    (λ item h. record { why = r.CoefficientTooLarge item; number = refl; carried = refl; counted = tt },
-    (λ item h. record { why = r.IntervalTooWide item; number = refl; carried = refl; counted = tt },
-    (λ item h. record { why = r.ExtentNotPositive item; number = refl; carried = refl; counted = tt },
-    (λ item h. record { why = r.WrongDimensions item; number = refl; carried = refl; counted = tt },
-    (λ item h. record { why = r.BadLiteral item; number = refl; carried = refl; counted = tt },
-    (λ item h. record { why = r.WrongKind item; number = refl; carried = refl; counted = tt },
-    tt))))))))))
+printed_answer u = answer u (printed_judged u) (
+  λ item h. record { why = r.NameTwice item; number = refl; carried = refl; counted = tt },
+  (
+    λ item h. record { why = r.NameUnknown item; number = refl; carried = refl; counted = tt },
+    (
+      λ item h. record { why = r.BadRange item; number = refl; carried = refl; counted = tt },
+      (
+        λ item h. record { why = r.NotAffine item; number = refl; carried = refl; counted = tt },
+        (
+          λ item h. record { why = r.CoefficientTooLarge item; number = refl; carried = refl; counted = tt },
+          (
+            λ item h. record { why = r.IntervalTooWide item; number = refl; carried = refl; counted = tt },
+            (
+              λ item h. record { why = r.ExtentNotPositive item; number = refl; carried = refl; counted = tt },
+              (
+                λ item h. record { why = r.WrongDimensions item; number = refl; carried = refl; counted = tt },
+                (
+                  λ item h. record { why = r.BadLiteral item; number = refl; carried = refl; counted = tt },
+                  (
+                    λ item h. record { why = r.WrongKind item; number = refl; carried = refl; counted = tt },
+                    tt,
+                  ),
+                ),
+              ),
+            ),
+          ),
+        ),
+      ),
+    ),
+  ),
+)

@@ -107,7 +107,11 @@ fn names_fit(alloc: Global, sc: &Scope<'_, '_>, s: &Stmt) -> Result<bool, OutOfM
 }
 
 /// Whether a name stands in an item with another number of subscripts than it takes.
-pub fn has_wrong_dimensions(alloc: Global, sc: &Scope<'_, '_>, s: &Stmt) -> Result<bool, OutOfMemory>
+pub fn has_wrong_dimensions(
+    alloc: Global,
+    sc: &Scope<'_, '_>,
+    s: &Stmt,
+) -> Result<bool, OutOfMemory>
     ensures { IfOk result (λ found. found ≡ not (printed.exprs_fit (printed.fits_dimensions (printed.dimensions (scope_in sc.now))) (stmt s.now) && printed.names_fit (scope_in sc.now) (stmt s.now))) }
 {
     Ok(!(names_fit(alloc, sc, s)? && exprs_fit(sc, s)))

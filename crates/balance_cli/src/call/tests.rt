@@ -438,7 +438,13 @@ const BALANCED: &str = "A = 5 6 7 8\nbalanced\n";
 #[test]
 fn runs_on_data(rt: HostRuntime) -> Result<(), Fail> {
     for (source, line, values, status, text) in [
-        (SHIFT_FILE, "try shift.c d1", SHIFT_DATA, Status::Done, BALANCED),
+        (
+            SHIFT_FILE,
+            "try shift.c d1",
+            SHIFT_DATA,
+            Status::Done,
+            BALANCED,
+        ),
         (
             SHIFT_FILE,
             "run shift.c d1",
