@@ -7,5 +7,6 @@ pub mod OwnNames
 pub mod Products
 pub mod RangeLaws
 pub mod Refusals
+pub mod SampleFrame
 pub mod SumValues
 pub mod Weights

@@ -1,7 +1,9 @@
 //! Which heads are good.
 
-ghost use Rattle.acceptance.specs.WorkedSources.{shift};
+ghost use Rattle.data_file.specs.Conditions.{IsFrame};
+ghost use Rattle.data_file.specs.Frames.{IsFrameOf};
 ghost use Rattle.frames.specs.Heads.{HasGoodHead, PrintedAreGood, SourcesAreGood};
+ghost use Rattle.frames.specs.Samples.{sample, sample_frame};
 
 /// The head of each accepted unit is good.
 pub fn heads_are_good()
@@ -9,7 +11,9 @@ pub fn heads_are_good()
     ensures printed { PrintedAreGood }
 {}
 
-/// There is a unit with a good head.
-pub fn some_head_is_good()
-    ensures { HasGoodHead shift }
+/// There is a unit with a good head, and it has a frame.
+pub fn sample_has_frame()
+    ensures good { HasGoodHead sample }
+    ensures of { IsFrameOf sample sample_frame }
+    ensures is { IsFrame sample_frame }
 {}

@@ -15,7 +15,7 @@ ghost use Rattle.frames.specs.Heads.{HasGoodHead};
 ghost use Rattle.frames.specs.Built.{HaveSums};
 
 use c_tree::{Frame, OutOfMemory, Unit, int_names};
-pub use heads::{heads_are_good, some_head_is_good};
+pub use heads::{heads_are_good, sample_has_frame};
 use std::alloc::Global;
 
 /// The frame of a unit. Extents stand for the affine expressions that they are, with their terms in
