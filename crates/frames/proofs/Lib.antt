@@ -1,0 +1,12 @@
+pub mod Exact
+pub mod ExtentLaws
+pub mod FrameLaws
+pub mod Loops
+pub mod MadeFrames
+pub mod OwnNames
+pub mod Products
+pub mod RangeLaws
+pub mod Refusals
+pub mod SampleFrame
+pub mod SumValues
+pub mod Weights
