@@ -33,6 +33,10 @@ condition c.BadLiteral u = bad_literal u
 condition c.IrregularWrite u = irregular_write u
 condition c.WrongKind u = wrong_kind u
 
+-- the item 0, where the test holds
+abbrev pub holds : Bool → Option ℕ
+holds b = if b then Some 0 else None
+
 -- the number of the refusal
 abbrev pub number : Check → ℕ
 number c.NameTwice = 4
@@ -57,10 +61,11 @@ number c.WrongKind = 18
 abbrev pub judgement : PlainUnit → Check → ℕ × Option ℕ
 judgement u check = (number check, least_item u (condition check u))
 
--- ---- at an item
+-- the same of the head alone
+abbrev pub judgement_at_head : PlainUnit → Check → ℕ × Option ℕ
+judgement_at_head u check = (number check, holds (condition check u).head)
 
-abbrev pub holds : Bool → Option ℕ
-holds b = if b then Some 0 else None
+-- ---- at an item
 
 abbrev pub over : ℕ → ℕ → Option ℕ
 over most n = if nat_lt most n then Some n else None

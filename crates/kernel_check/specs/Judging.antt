@@ -4,8 +4,9 @@ use Rattle.c_tree.specs.Plain.{PlainUnit}
 use Rattle.c_tree.specs.declared.refusal.Refusal.{Refusal}
 use Rattle.c_tree.specs.declared.refusal.Refusal.TheVariants as r
 use Rattle.acceptance.specs.Items.{least_item, lowest}
-use Rattle.acceptance.specs.Head.{extent_not_positive}
+use Rattle.acceptance.specs.Head.{bad_range, extents_known, extent_not_affine, extent_terms_too_large, extent_too_wide, extent_not_positive, head_names_twice}
 use Rattle.acceptance.specs.Limits.{too_many}
+use Rattle.kernel_check.specs.Conditions.{holds}
 use Rattle.acceptance.specs.Printed.{at_head, printed_conditions}
 
 abbrev pub number_of : Refusal → ℕ
@@ -73,3 +74,9 @@ twelfth u = (12, least_item u (at_head (extent_not_positive u)))
 -- the numbers of the refusals of a printed unit, with the least item of each
 abbrev pub printed_judged : PlainUnit → List (ℕ × Option ℕ)
 printed_judged u = map (λ c. (c.0, least_item u c.1)) (printed_conditions u)
+
+-- the numbers of the refusals that may hold at the head, with item 0 where they do
+abbrev pub head_judged : PlainUnit → List (ℕ × Option ℕ)
+head_judged u =
+    (4, holds (head_names_twice u)) ∷ (5, holds (not (extents_known [] u.params))) ∷ (7, holds (bad_range u).head) ∷ (9, holds (extent_not_affine u))
+    ∷ (10, holds (extent_terms_too_large u)) ∷ (11, holds (extent_too_wide u)) ∷ (12, holds (extent_not_positive u)) ∷ []

@@ -4,11 +4,14 @@
 mod conditions;
 mod count;
 mod counts;
+mod heads;
 mod judge;
+mod kernel;
 mod laws;
 mod refusing;
 mod top;
 mod walk;
 
 pub use judge::{judge_printed, judge_source};
+pub use kernel::{Kernel, Printed, check, check_printed, frame};
 pub use laws::refused_or_not;

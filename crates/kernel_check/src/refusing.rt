@@ -14,7 +14,7 @@ use c_tree::{Counted, OutOfMemory, Refusal};
 use scopes::Declared;
 use std::alloc::Global;
 
-fn refusal_at(check: Check, item: u32) -> Refusal
+pub fn refusal_at(check: Check, item: u32) -> Refusal
     ensures number { number_of result ≡ number check }
     ensures item { item_of result ≡ Some item }
     ensures count { (u : PlainUnit) → carries_count check ≡ false → CarriesCount u result }

@@ -1,0 +1,101 @@
+//! Units that were checked.
+
+ghost use Rattle.std.specs.Prelude.{◌≡◌, ◌⊎◌, IfErr, IfOk, OnOk, None};
+ghost use Rattle.c_tree.specs.Trees.{unit as tree};
+ghost use Rattle.c_tree.specs.declared.refusal.Refusal.{Refusal};
+ghost use Rattle.acceptance.specs.Items.{lowest};
+ghost use Rattle.acceptance.specs.Sources.{judged};
+ghost use Rattle.acceptance.specs.Trees.{IsSourceTree, IsPrintedTree};
+ghost use Rattle.data_file.specs.Conditions.{IsFrame};
+ghost use Rattle.data_file.specs.Frames.{IsFrameOf};
+ghost use Rattle.kernel_check.specs.Judging.{head_judged, printed_judged, IsLowest};
+ghost use Rattle.kernel_check.specs.Kernels.{IsKernelOf, IsPrintedOf};
+
+use crate::heads::refuse_head;
+use crate::judge::{judge_printed, judge_source};
+use c_tree::{Frame, Refusal, Unit};
+use frames::{frame_of, heads_are_good};
+use scopes::Declared;
+use std::alloc::Global;
+
+/// A source that is accepted, with its frame.
+#[derive(Drop)]
+pub struct Kernel {
+    unit: Unit,
+    frame: Frame,
+}
+
+impl Kernel {
+    /// The source.
+    pub fn unit(&self) -> &Unit
+        ensures { result.now ≡ self.now.unit }
+    {
+        &self.unit
+    }
+
+    /// Its parameters with their ranges, and its arrays with their extents.
+    pub fn frame(&self) -> &Frame
+        ensures { result.now ≡ self.now.frame }
+    {
+        &self.frame
+    }
+}
+
+/// A printed unit that is accepted, with its frame.
+#[derive(Drop)]
+pub struct Printed {
+    unit: Unit,
+    frame: Frame,
+}
+
+impl Printed {
+    /// The printed unit.
+    pub fn unit(&self) -> &Unit
+        ensures { result.now ≡ self.now.unit }
+    {
+        &self.unit
+    }
+
+    /// Its parameters with their ranges, and its arrays with their extents.
+    pub fn frame(&self) -> &Frame
+        ensures { result.now ≡ self.now.frame }
+    {
+        &self.frame
+    }
+}
+
+/// The source, where it is accepted. It refuses the lowest number that holds anywhere, with its least item.
+pub fn check(alloc: Global, unit: Unit) -> Result<Kernel, Refusal>
+    requires { IsSourceTree (tree unit) }
+    ensures ok { IfOk result (IsKernelOf (tree unit)) }
+    ensures err { IfErr result (λ why. (why ≡ Refusal.OutOfMemory) ⊎ IsLowest (tree unit) (judged (tree unit)) why) }
+{
+    heads_are_good();
+    judge_source(alloc, &unit)?;
+    let frame = frame_of(alloc, &unit)?;
+    Ok(Kernel { unit, frame })
+}
+
+/// The printed unit, where it is accepted. It refuses the lowest number that holds anywhere, with its least item.
+pub fn check_printed(alloc: Global, unit: Unit) -> Result<Printed, Refusal>
+    requires { IsPrintedTree (tree unit) }
+    ensures ok { IfOk result (IsPrintedOf (tree unit)) }
+    ensures err { IfErr result (λ why. (why ≡ Refusal.OutOfMemory) ⊎ IsLowest (tree unit) (printed_judged (tree unit)) why) }
+{
+    heads_are_good();
+    judge_printed(alloc, &unit)?;
+    let frame = frame_of(alloc, &unit)?;
+    Ok(Printed { unit, frame })
+}
+
+/// The frame of the head of a unit. It refuses the lowest number that holds at the head.
+pub fn frame(alloc: Global, unit: &Unit) -> Result<Frame, Refusal>
+    ensures of { IfOk result (λ f. IsFrameOf (tree unit.now) f) }
+    ensures is { IfOk result IsFrame }
+    ensures ok { OnOk result (lowest (head_judged (tree unit.now)) ≡ None) }
+    ensures err { IfErr result (λ why. (why ≡ Refusal.OutOfMemory) ⊎ IsLowest (tree unit.now) (head_judged (tree unit.now)) why) }
+{
+    let declared = Declared::new(alloc, unit)?;
+    refuse_head(alloc, &declared)?;
+    Ok(frame_of(alloc, unit)?)
+}
