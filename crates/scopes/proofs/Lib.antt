@@ -1,2 +1,3 @@
+mod KnownNames
 mod Lists
 mod SameNames
