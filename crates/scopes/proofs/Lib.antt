@@ -1,1 +1,3 @@
-pub mod Lists
+mod KnownNames
+mod Lists
+mod SameNames

@@ -3,6 +3,7 @@
 
 pub mod declared;
 pub mod interval;
+mod known;
 pub mod name_set;
 pub mod scope;
 

@@ -5,6 +5,7 @@ ghost use Rattle.c_tree.specs.Names.{is_among};
 ghost use Rattle.scopes.specs.Intervals.{reversed};
 
 use c_tree::{Name, OutOfMemory};
+use indexmap::IndexSet;
 use sqlite_items::Items;
 use std::alloc::Global;
 use std::marker::Model;
@@ -13,6 +14,7 @@ use std::marker::Model;
 #[derive(Drop)]
 pub struct NameSet<'a> {
     names: Items<&'a Name>,
+    bytes: IndexSet<&'a [u8]>,
 }
 
 /// As contracts see it, the names, the last first.
@@ -20,10 +22,13 @@ impl<'a> Model for NameSet<'a> {
     ghost use Rattle.std.specs.Prelude.{List};
     ghost use Rattle.c_tree.specs.Plain.{Word};
     ghost use Rattle.scopes.specs.Intervals.{reversed};
+    ghost use Rattle.scopes.specs.Names.{HasSameNames};
 
     ghost Value = { List Word };
 
     ghost view = { λ t. reversed t.names };
+
+    ghost invariant = { λ t. HasSameNames t.bytes.keys t.names };
 }
 
 impl<'a> NameSet<'a> {
@@ -33,6 +38,7 @@ impl<'a> NameSet<'a> {
     {
         NameSet {
             names: Items::new(alloc),
+            bytes: IndexSet::new(alloc),
         }
     }
 
@@ -40,18 +46,16 @@ impl<'a> NameSet<'a> {
     pub fn add(&mut self, name: &'a Name) -> Result<(), OutOfMemory>
         ensures { OnOk result (self.new ≡ name.now.bytes ∷ self.old) }
     {
-        Ok(self.names.push(name)?)
+        self.bytes.reserve(1)?;
+        self.names.push(name)?;
+        self.bytes.insert(name.bytes.as_slice())?;
+        Ok(())
     }
 
     /// Whether one of them has this name.
     pub fn contains(&self, name: &Name) -> bool
         ensures { result ≡ is_among self.now name.now.bytes }
     {
-        for other in self.names.as_slice() {
-            if other.same(name) {
-                return true;
-            }
-        }
-        false
+        self.bytes.contains(name.bytes.as_slice())
     }
 }

@@ -1,7 +1,0 @@
-use Rattle.std.specs.Prelude.{◌≡◌, map, drop}
-use Rattle.c_tree.specs.Trees.{param}
-use Rattle.acceptance.specs.Items.{is_array}
-use Rattle.scopes.proofs.declared.is_array.Given as goal
-
-abbrev pub invariant-loop-p : goal.invariant-loop-p
-invariant-loop-p l = is_array (map param l.params) l.name.bytes ≡ is_array (map param (drop l.p-index l.params)) l.name.bytes
