@@ -1,5 +1,5 @@
 -- The value of an affine expression is its constant and the coefficient of each name times the value of the name.
-use Rattle.std.proofs.Common.{◌≡◌, ℕ, Bool, true, false, cond, not, ◌&&◌, ◌||◌, List, [], ◌∷◌, ℤ, pos, neg_ℤ, ◌+ℤ◌, ◌-ℤ◌, ◌*ℤ◌, refl, ap, ◌∙◌, subst, arith}
+use Rattle.std.proofs.Common.{◌≡◌, ℕ, Bool, true, false, cond, not, ◌&&◌, List, [], ◌∷◌, ℤ, pos, neg_ℤ, ◌+ℤ◌, ◌-ℤ◌, ◌*ℤ◌, refl, ap, ◌∙◌, subst, arith}
 use Rattle.std.specs.Prelude.{bytes_eq}
 use Rattle.std.proofs.lemmas.Bool.{and_parts}
 use Rattle.std.proofs.lemmas.Int.{ints}
@@ -16,6 +16,7 @@ use Rattle.c_tree.specs.declared.expr.BinOp.TheVariants.{Add, Sub, Mul}
 use Rattle.acceptance.specs.Affine.{has_name, is_affine, is_affine_bin, constant as constant_of, coefficient, coefficient_bin}
 use Rattle.affine_sets.specs.Expressions.{are_different, over}
 use Rattle.affine_sets.proofs.ScaledLaws.{add_times}
+use Rattle.frames.proofs.Booleans.{or_parts, not_true}
 use Rattle.frames.proofs.Products.{zero_times, times_add}
 use Rattle.frames.proofs.Weights.{weighted, weighted_same, weighted_none, weighted_sum, weighted_difference, weighted_minus, weighted_multiple}
 
@@ -45,10 +46,6 @@ no_value (x ∷ xs) y = by (bytes_eq x y) (no_value xs y)
 abbrev at_name : Word → Word → ℤ
 at_name y x = cond (bytes_eq x y) (pos 1) (pos 0)
 
-or_parts : (a b : Bool) → a || b ≡ false → (a ≡ false) × (b ≡ false)
-or_parts true b h = cc
-or_parts false b h = (refl, h)
-
 absent : (xs : List Word) (y : Word) (ns : List ℤ) → is_among xs y ≡ false → weighted (at_name y) xs ns ≡ pos 0
 absent [] y ns h = refl
 absent (x ∷ xs) y [] h = refl
@@ -58,10 +55,6 @@ absent (x ∷ xs) y (n ∷ ns) h =
   where
     nothing : (m z : ℤ) → z ≡ pos 0 → pos 0 *ℤ m +ℤ z ≡ pos 0
     nothing m z e = omega (arith, ints)
-
-not_true : (b : Bool) → not b ≡ true → b ≡ false
-not_true false h = refl
-not_true true h = cc
 
 pub of_name : (xs : List Word) (y : Word) (ns : List ℤ) → are_different xs ≡ true → value_in (values xs ns) y ≡ weighted (at_name y) xs ns
 of_name [] y ns d = refl

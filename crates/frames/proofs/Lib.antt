@@ -1,3 +1,4 @@
+pub mod Booleans
 pub mod Exact
 pub mod ExtentLaws
 pub mod FrameLaws

@@ -9,18 +9,7 @@ use Rattle.c_tree.specs.Plain.{Word, PlainParam, int_param, array_param, PlainUn
 use Rattle.acceptance.specs.Items.{is_param, is_scalar}
 use Rattle.acceptance.specs.Head.{params_twice, words_twice, wides_twice, head_names_twice}
 use Rattle.affine_sets.specs.Expressions.{are_different}
-
-pub or_parts : (a b : Bool) → a || b ≡ false → (a ≡ false) × (b ≡ false)
-or_parts true b h = cc
-or_parts false b h = (refl, h)
-
-or_from : (a b : Bool) → a ≡ false → b ≡ false → a || b ≡ false
-or_from true b g h = g
-or_from false b g h = h
-
-not_true : (b : Bool) → not b ≡ true → b ≡ false
-not_true false h = refl
-not_true true h = cc
+use Rattle.frames.proofs.Booleans.{or_parts, or_from, not_true}
 
 other_way : (x y : Word) → bytes_eq x y ≡ false → bytes_eq y x ≡ false
 other_way x y h = by (bytes_eq y x) refl

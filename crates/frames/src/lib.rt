@@ -18,8 +18,9 @@ use c_tree::{Frame, OutOfMemory, Unit, int_names};
 pub use heads::{heads_are_good, sample_has_frame};
 use std::alloc::Global;
 
-/// The frame of a unit. Extents stand for the affine expressions that they are, with their terms in
-/// the order of the parameters.
+/// The frame of a unit: the `int64_t` parameters in declared order, each with the ends of its range
+/// line, and the arrays, whose extents are the sums that stand for them. It fails for want of memory
+/// alone.
 pub fn frame_of(alloc: Global, unit: &Unit) -> Result<Frame, OutOfMemory>
     requires { HasGoodHead (tree unit.now) }
     ensures of { IfOk result (λ f. IsFrameOf (tree unit.now) f) }
