@@ -1,6 +1,7 @@
 pub mod Firsts
 pub mod Flat
 pub mod FlatTrees
+pub mod HeadLists
 pub mod Judged
 pub mod Numbered
 pub mod Over

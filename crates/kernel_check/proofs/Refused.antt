@@ -1,10 +1,10 @@
 -- The lowest number that holds is that of a refusal.
-use Rattle.std.proofs.Common.{◌≡◌, ◌⊎◌, inl, inr, ℕ, List, [], ◌∷◌, Option, Some, None, refl, sym, ap, ◌∙◌}
+use Rattle.std.proofs.Common.{◌≡◌, ◌⊎◌, inl, inr, ℕ, List, [], ◌∷◌, Option, Some, None, refl, sym, ap}
 use Rattle.std.specs.List.{AllByRecursion}
 use Rattle.c_tree.specs.Plain.{PlainUnit}
 use Rattle.c_tree.specs.declared.refusal.Refusal.{Refusal}
 use Rattle.c_tree.specs.declared.refusal.Refusal.TheVariants as r
-use Rattle.acceptance.specs.Items.{lowest, least_item}
+use Rattle.acceptance.specs.Items.{lowest}
 use Rattle.acceptance.specs.Limits.{Excess, too_many}
 use Rattle.acceptance.specs.Sources as sources
 use Rattle.acceptance.specs.Sources.{judged}

@@ -2,6 +2,7 @@
 
 ghost use Rattle.std.specs.Prelude.{◌≡◌, map, false};
 ghost use Rattle.std.specs.List.{list_any};
+ghost use Rattle.c_tree.specs.Trees.{unit as tree};
 ghost use Rattle.kernel_check.specs.Conditions.{carries_count, judgement_at_head};
 ghost use Rattle.kernel_check.specs.Judging.{IsJudged, head_judged};
 ghost use Rattle.scopes.specs.Scopes.{declared_in};
@@ -9,7 +10,7 @@ ghost use Rattle.scopes.specs.Scopes.{declared_in};
 use crate::conditions::{Check, holds_at_head};
 use crate::refusing::refusal_at;
 use affine_checks::extents_not_positive;
-use c_tree::Refusal;
+use c_tree::{Refusal, Unit};
 use scopes::Declared;
 use std::alloc::Global;
 
@@ -29,8 +30,7 @@ fn refuse_checks<'n>(
     Ok(())
 }
 
-/// The lowest refusal that holds at the head.
-pub fn refuse_head<'n>(alloc: Global, declared: &Declared<'n>) -> Result<(), Refusal>
+fn refuse_head<'n>(alloc: Global, declared: &Declared<'n>) -> Result<(), Refusal>
     ensures { IsJudged (declared_in declared.now) (head_judged (declared_in declared.now)) result }
 {
     let checks = [
@@ -47,4 +47,12 @@ pub fn refuse_head<'n>(alloc: Global, declared: &Declared<'n>) -> Result<(), Ref
     } else {
         Ok(())
     }
+}
+
+/// The lowest refusal that holds at the head of a unit.
+pub fn judge_head(alloc: Global, unit: &Unit) -> Result<(), Refusal>
+    ensures { IsJudged (tree unit.now) (head_judged (tree unit.now)) result }
+{
+    let declared = Declared::new(alloc, unit)?;
+    refuse_head(alloc, &declared)
 }

@@ -11,11 +11,10 @@ ghost use Rattle.data_file.specs.Frames.{IsFrameOf};
 ghost use Rattle.kernel_check.specs.Judging.{head_judged, printed_judged, IsLowest};
 ghost use Rattle.kernel_check.specs.Kernels.{IsKernelOf, IsPrintedOf};
 
-use crate::heads::refuse_head;
+use crate::heads::judge_head;
 use crate::judge::{judge_printed, judge_source};
 use c_tree::{Frame, Refusal, Unit};
 use frames::{frame_of, heads_are_good};
-use scopes::Declared;
 use std::alloc::Global;
 
 /// A source that is accepted, with its frame.
@@ -95,7 +94,6 @@ pub fn frame(alloc: Global, unit: &Unit) -> Result<Frame, Refusal>
     ensures ok { OnOk result (lowest (head_judged (tree unit.now)) ≡ None) }
     ensures err { IfErr result (λ why. (why ≡ Refusal.OutOfMemory) ⊎ IsLowest (tree unit.now) (head_judged (tree unit.now)) why) }
 {
-    let declared = Declared::new(alloc, unit)?;
-    refuse_head(alloc, &declared)?;
+    judge_head(alloc, unit)?;
     Ok(frame_of(alloc, unit)?)
 }
