@@ -7,7 +7,7 @@ use Rattle.c_tree.specs.declared.expr.Rel.TheVariants.{Lt}
 use Rattle.c_tree.specs.declared.expr.BinOp.TheVariants.{Add}
 use Rattle.acceptance.specs.WorkedSources.{at, i, lines_for, line, loop_to, many_ints, n, set, shift_of, shift_with, step}
 use Rattle.sites.specs.Classes.{class_of, number}
-use Rattle.sites.specs.Sites.{Frame, Site, is_read, is_write, sites_of, all_sites}
+use Rattle.sites.specs.Sites.{Outer, outer_loop, outer_branch, is_read, is_write, sites_of, all_sites}
 use Rattle.sites.specs.declared.class.Class.{Class}
 
 -- each array with its class and the numbers of its read and write sites
@@ -18,9 +18,13 @@ arrays u = map (λ x. (x, class_of u x, number is_read (sites_of u x), number is
 abbrev pub listed : PlainUnit → List (ℕ × ℕ × Word × Bool)
 listed u = map (λ s. (s.statement, s.position, s.reach.name, s.reach.writes)) (all_sites u)
 
+abbrev pub item_of : Outer → ℕ
+item_of (outer_loop n v l) = n
+item_of (outer_branch n first ts) = n
+
 -- the numbers of the items around each site, the innermost first
 abbrev pub around_each : PlainUnit → List (List ℕ)
-around_each u = map (λ s. map (λ (f : ℕ × Frame). f.0) s.frames) (all_sites u)
+around_each u = map (λ s. map item_of s.outers) (all_sites u)
 
 abbrev pub a_class : PlainUnit → Class
 a_class u = class_of u (codes "A")
