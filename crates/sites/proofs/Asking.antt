@@ -9,7 +9,7 @@ use Rattle.sites.specs.Shown.{asks}
 use Rattle.sites.specs.Sites.{Site, around, first_variable, is_of, all_sites}
 use Rattle.sites.specs.declared.question.Ask.{Ask}
 use Rattle.sites.proofs.Counting.{counted_all}
-use Rattle.sites.proofs.Lists.{filter_both}
+use Rattle.sites.proofs.Filtered.{filter_both}
 
 pub asked_is : (u : Unit) (x : Word) (a : Ask) →
     found_all (λ fs r. bytes_eq x r.name && asks a (ints_of u) fs r.at r.writes) (stmts u.body) [] ≡ number_asked u x a
