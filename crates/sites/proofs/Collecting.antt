@@ -1,12 +1,13 @@
 -- Walks in a row add the sites of both.
-use Rattle.std.proofs.Common.{◌≡◌, ℕ, suc, ◌+◌, Bool, true, false, cond, List, [], ◌∷◌, ◌++◌, append_assoc, length, length-append, filter, drop, drop-cons, get_or, ◌<◌, ◌≤◌, Option, Result, Ok, Err, refl, sym, ap, ◌∙◌, subst, arith}
+use Rattle.std.proofs.Common.{◌≡◌, ℕ, suc, ◌+◌, Bool, true, false, cond, List, [], ◌∷◌, ◌++◌, append_assoc, append-nil, length, length-append, filter, drop, drop-cons, get_or, ◌<◌, ◌≤◌, Option, Result, Ok, Err, refl, sym, ap, ◌∙◌, subst, arith}
 use Rattle.std.specs.Result.{IfOk}
 use Rattle.std.specs.declared.boxed.Box.{Box}
 use Rattle.std.specs.declared.alloc.Global.{Global}
 use Rattle.std.proofs.lemmas.List.{drop_all}
 use Rattle.std.proofs.lemmas.List.Elements.{filter-append}
-use Rattle.c_tree.specs.Plain.{Word, PlainExpr, bin, test, umin, umax, PlainExprs, PlainTest, PlainStmt, loop, choice, assign, PlainStmts}
-use Rattle.c_tree.specs.Trees.{expr, exprs, stmt, stmts}
+use Rattle.c_tree.specs.Names.{arrays_in, ints_in}
+use Rattle.c_tree.specs.Plain.{Word, PlainExpr, bin, test, umin, umax, PlainExprs, PlainTest, PlainStmt, loop, choice, assign, PlainStmts, PlainUnit}
+use Rattle.c_tree.specs.Trees.{expr, exprs, stmt, stmts, unit}
 use Rattle.c_tree.specs.declared.expr.BinOp.{BinOp}
 use Rattle.c_tree.specs.declared.expr.Expr.{Expr, Cell, Bin, Test, Min, Max}
 use Rattle.c_tree.specs.declared.expr.Rel.{Rel}
@@ -14,15 +15,15 @@ use Rattle.c_tree.specs.declared.name.Name.{Name}
 use Rattle.c_tree.specs.declared.stmt.Stmt.{Stmt}
 use Rattle.c_tree.proofs.Equations.{expr-Cell, expr-Bin, expr-Test, expr-Min, expr-Max}
 use Rattle.sites.specs.Collected.{Grows, Reaches, Walks, Walked, WalkedAll, kept, one_site, shown}
-use Rattle.sites.specs.Infos.{Front, Shows, numbered_from, those_of}
+use Rattle.sites.specs.Infos.{Front, Pairs, Shows, ShowsSites, numbered_from, numbered_sites, those_of}
 use Rattle.sites.specs.Outers.{outers_in}
-use Rattle.sites.specs.Sites.{Outer, outer_loop, outer_branch, Reach, Site, is_of, placed, read_of, reads_in, reads_in_all, accesses_of, old_cell, count, count_all, loops, loops_all, sites, sites_all}
+use Rattle.sites.specs.Sites.{Outer, outer_loop, outer_branch, first_variable, Reach, Site, is_of, placed, read_of, reads_in, reads_in_all, accesses_of, old_cell, count, count_all, loops, loops_all, sites, sites_all}
 use Rattle.sites.specs.declared.collect.Count.{Count}
 use Rattle.sites.specs.declared.collect.Next.{Next}
 use Rattle.sites.specs.declared.collect.Place.{Place}
 use Rattle.sites.specs.declared.collect.Query.{Query}
 use Rattle.sites.specs.declared.info.SiteInfo.{SiteInfo}
-use Rattle.sites.proofs.Fronts.{front_more}
+use Rattle.sites.proofs.Fronts.{front_all, front_more}
 
 -- ---- lists
 
@@ -257,3 +258,19 @@ all_walked q os n r xs ys old new e g = subst (λ (zs : List Stmt). WalkedAll q 
 pub cell_accesses : (t : Expr) (x : Name) (at : List Expr) (op : Option BinOp) (e : PlainExpr) → t ≡ Cell x at
     → accesses_of (expr t) op e ≡ reads_in_all (exprs at) ++ (old_cell op x.bytes (exprs at) ++ (reads_in e ++ record { name = x.bytes; at = exprs at; writes = true } ∷ []))
 cell_accesses t x at op e is = ap (λ (d : Expr). accesses_of (expr d) op e) is ∙ ap (λ (d : PlainExpr). accesses_of d op e) (expr-Cell x at)
+
+-- ---- the whole body
+
+collected : (q : Query) (old new : List SiteInfo) (more : List (ℕ × Site)) → old ≡ [] → Grows q old new more → Pairs (shown q) new more
+collected q old new more e g =
+    let f : Front (shown q) new (more ++ []) [] = g (more ++ []) [] (subst (λ (xs : List SiteInfo). Front (shown q) xs (more ++ []) (more ++ [])) (sym e) refl) in
+    subst (λ (ss : List (ℕ × Site)). Pairs (shown q) new ss) (append-nil more) (front_all (shown q) new (more ++ []) f)
+
+pub of_unit : (q : Query) (v : ℕ) (old new : List SiteInfo) (r : Next) → old ≡ [] → v ≡ first_variable (unit q.unit.now)
+    → WalkedAll q [] (stmts q.unit.now.body) (record { item = 1; variable = v; site = 0 }) old new r → Pairs (shown q) new (numbered_sites (unit q.unit.now) q.array.now.bytes)
+of_unit q v old new r none e g =
+    subst (λ (n : ℕ). Pairs (shown q) new (those_of q.array.now.bytes (numbered_from 0 (sites_all (stmts q.unit.now.body) 1 n [])))) e
+    (collected q old new (kept q (numbered_from 0 (sites_all (stmts q.unit.now.body) 1 v []))) none g.grows)
+
+pub of_arrays : (u : PlainUnit) (arrays : List Word) (x : Word) (infos : List SiteInfo) → arrays ≡ arrays_in u.params → Pairs (Shows (ints_in u.params) arrays) infos (numbered_sites u x) → ShowsSites u infos x
+of_arrays u arrays x infos e h = subst (λ (names : List Word). Pairs (Shows (ints_in u.params) names) infos (numbered_sites u x)) e h

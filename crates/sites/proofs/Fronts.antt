@@ -67,6 +67,9 @@ tests_left = left_none tests a_test (λ x xs. refl) refl
 pub word_left : (xs : List Name) (i : ℕ) (x : Name) → i < length xs → x ≡ get_or xs i x → words (drop i xs) ≡ word x ∷ words (drop (i + 1) xs)
 word_left = left_here words word (λ x xs. refl) refl
 
+pub words_left : (xs : List Name) (i : ℕ) → length xs ≤ i → words (drop i xs) ≡ []
+words_left = left_none words word (λ x xs. refl) refl
+
 -- one more, and then the rest
 pub one_further : {A B : Type 0} (R : A → B → Type 0) (xs : List A) (x : A) (new : List A) (all old rest : List B) (y : B) → Front R xs all old → old ≡ y ∷ rest → R x y → new ≡ xs ++ x ∷ [] → Front R new all rest
 one_further R xs x new all old rest y f e h g =
