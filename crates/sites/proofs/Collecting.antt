@@ -102,7 +102,7 @@ pub read_on : (p : Place) (n m : Count) (xs : List Expr) (i : ℕ) (e : Expr) (o
     → Reaches p m (reads_in_all (exprs (drop (i + 1) xs))) mid new r → Reaches p n (reads_in_all (exprs (drop i xs))) out new r
 read_on p n m xs i e out mid new r within is g h =
     let here : drop i xs ≡ e ∷ drop (i + 1) xs =
-        drop-cons xs i e within ∙ ap (λ (z : Expr). z ∷ drop (suc i) xs) (sym is) ∙ ap (λ (j : ℕ). e ∷ drop j xs) (let z : suc i ≡ i + 1 = omega arith in z) in
+    drop-cons xs i e within ∙ ap (λ (z : Expr). z ∷ drop (suc i) xs) (sym is) ∙ ap (λ (j : ℕ). e ∷ drop j xs) (let z : suc i ≡ i + 1 = omega arith in z) in
     subst (λ (ys : List Expr). Reaches p n (reads_in_all (exprs ys)) out new r) (sym here) (reaches_append p n m r (reads_in (expr e)) (reads_in_all (exprs (drop (i + 1) xs))) out mid new g h)
 
 pub read_all : (p : Place) (n : Count) (xs : List Expr) (i : ℕ) (out : List SiteInfo) → length xs ≤ i → Reaches p n (reads_in_all (exprs (drop i xs))) out out n
@@ -238,7 +238,7 @@ pub walk_on : (q : Query) (os : List Outer) (n m : Next) (xs : List Stmt) (i : �
     → WalkedAll q os (stmts (drop (i + 1) xs)) m mid new r → WalkedAll q os (stmts (drop i xs)) n out new r
 walk_on q os n m xs i s out mid new r within is g h =
     let here : drop i xs ≡ s ∷ drop (i + 1) xs =
-        drop-cons xs i s within ∙ ap (λ (z : Stmt). z ∷ drop (suc i) xs) (sym is) ∙ ap (λ (j : ℕ). s ∷ drop j xs) (let z : suc i ≡ i + 1 = omega arith in z) in
+    drop-cons xs i s within ∙ ap (λ (z : Stmt). z ∷ drop (suc i) xs) (sym is) ∙ ap (λ (j : ℕ). s ∷ drop j xs) (let z : suc i ≡ i + 1 = omega arith in z) in
     let ss = stmts (drop (i + 1) xs) in
     subst (λ (ys : List Stmt). WalkedAll q os (stmts ys) n out new r) (sym here)
     (walks_append q n m r (sites (stmt s) n.item n.variable os) (sites_all ss (n.item + count (stmt s)) (n.variable + loops (stmt s)) os) (count (stmt s)) (count_all ss) (loops (stmt s)) (loops_all ss) out mid new g

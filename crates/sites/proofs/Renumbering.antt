@@ -108,9 +108,9 @@ numbered (x ∷ ws) (m ∷ ns) e zero h = ap (λ b. b || is_variable (paired ws 
 numbered (x ∷ ws) (m ∷ ns) e (suc i) h =
     let k = or_zero (slice_get ns i) in
     ap (λ b. nat_eq m k || b) (numbered ws ns (omega arith) i (omega arith)) ∙ or_true (nat_eq m k) where
-  or_true : (b : Bool) → (b || true) ≡ true
-  or_true true = refl
-  or_true false = refl
+      or_true : (b : Bool) → (b || true) ≡ true
+      or_true true = refl
+      or_true false = refl
 
 module _ (ws : List Word) (ns : List ℕ) (e : PlainExpr) (a : Affine) (whole : length ws ≡ length ns) (rising : is_increasing_from 1 ns ≡ true) (h : StandsFor ws e a) where
   has_all : has_variables_to (length ns) a.terms ≡ true
@@ -128,14 +128,13 @@ module _ (ws : List Word) (ns : List ℕ) (e : PlainExpr) (a : Affine) (whole : 
   at_each (x ∷ xs) (m ∷ ms) k cs ps room =
       let z : k + 0 ≡ k = omega arith in
       let here : or_zero (slice_get ns k) ≡ m = subst (λ (j : ℕ). or_zero (slice_get ns j) ≡ m) z (ps 0) in
-      let there : coefficient_at (suc k) a.terms ≡ coefficient x e = subst (λ (j : ℕ). coefficient_at (suc j) a.terms ≡ coefficient x e) z (cs 0 x refl) in
-      (
+      let there : coefficient_at (suc k) a.terms ≡ coefficient x e = subst (λ (j : ℕ). coefficient_at (suc j) a.terms ≡ coefficient x e) z (cs 0 x refl) in (
         ap (λ (j : ℕ). coefficient_at j (renumbered ns a.terms)) (sym here)
-        ∙ moved_coefficient (number_at ns) (length ns) (number_rises ns rising) (suc k) (omega arith) (omega arith) a.terms has_all ∙ there,
+            ∙ moved_coefficient (number_at ns) (length ns) (number_rises ns rising) (suc k) (omega arith) (omega arith) a.terms has_all ∙ there,
         at_each xs ms (suc k)
-        (λ i y g. subst (λ (j : ℕ). coefficient_at (suc j) a.terms ≡ coefficient y e) (let s : k + suc i ≡ suc k + i = omega arith in s) (cs (suc i) y g))
-        (λ i. subst (λ (j : ℕ). or_zero (slice_get ns j) ≡ or_zero (slice_get ms i)) (let s : k + suc i ≡ suc k + i = omega arith in s) (ps (suc i)))
-        (omega arith),
+            (λ i y g. subst (λ (j : ℕ). coefficient_at (suc j) a.terms ≡ coefficient y e) (let s : k + suc i ≡ suc k + i = omega arith in s) (cs (suc i) y g))
+            (λ i. subst (λ (j : ℕ). or_zero (slice_get ns j) ≡ or_zero (slice_get ms i)) (let s : k + suc i ≡ suc k + i = omega arith in s) (ps (suc i)))
+            (omega arith),
       )
 
   pub stands : (b : Affine) → b.constant ≡ a.constant → b.terms ≡ renumbered ns a.terms → IsSum (paired ws ns) e b

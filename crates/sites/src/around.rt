@@ -92,11 +92,7 @@ fn test_info(
 }
 
 /// The loops around a place, the outermost first.
-pub fn loops_at(
-    alloc: Global,
-    params: &[Param],
-    outers: &Outers<'_>,
-) -> Result<Loops, OutOfMemory>
+pub fn loops_at(alloc: Global, params: &[Param], outers: &Outers<'_>) -> Result<Loops, OutOfMemory>
     ensures { IfOk result (λ ls. Pairs (ShowsLoop (ints_in (map param params.now))) ls (loops_around (outers_in outers.now))) }
 {
     match outers {

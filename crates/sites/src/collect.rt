@@ -11,6 +11,7 @@ ghost use Rattle.sites.specs.Sites.{accesses_of, old_cell, reads_in, reads_in_al
 
 use crate::around::{loops_at, tests_at};
 use crate::info::{SiteInfo, SiteList};
+use crate::numbers::after;
 use crate::outers::Outers;
 use crate::subscripts::subscripts_at;
 use crate::variables::variables_at;
@@ -46,15 +47,6 @@ pub struct Next {
     pub item: u32,
     pub variable: u32,
     pub site: u32,
-}
-
-fn after(n: u32) -> Result<u32, OutOfMemory>
-    ensures { IfOk result (λ m. m ≡ suc n) }
-{
-    match n.checked_add(1) {
-        Some(m) => Ok(m),
-        None => Err(OutOfMemory),
-    }
 }
 
 fn info(
@@ -315,7 +307,13 @@ fn walk<'q, 'x>(
     ensures { IfOk result (λ r. Walked q.now (outers_in outers.now) (stmt s.now) next out.old out.new r) }
 {
     match s {
-        Stmt::For { var, lo, rel, hi, body } => {
+        Stmt::For {
+            var,
+            lo,
+            rel,
+            hi,
+            body,
+        } => {
             let within = next_loop(next)?;
             let inner = Outers::InLoop(next.item, next.variable, var, lo, *rel, hi, outers);
             walk_all(alloc, q, &inner, body, within, out)

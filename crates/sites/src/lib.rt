@@ -11,6 +11,7 @@ mod good;
 mod info;
 mod laws;
 mod lists;
+mod numbers;
 mod occurs;
 mod outers;
 mod question;
@@ -21,7 +22,10 @@ mod variables;
 mod walk;
 
 pub use class::Class;
-pub use info::{LoopInfo, Loops, Sides, SiteInfo, SiteList, SiteLists, SiteTests, Subscript, Subscripts, TestInfo};
+pub use info::{
+    LoopInfo, Loops, Sides, SiteInfo, SiteList, SiteLists, SiteTests, Subscript, Subscripts,
+    TestInfo,
+};
 pub use laws::{worked_arrays, worked_classes, worked_sites};
 pub use lists::sites_of;
 pub use report::{class_of, reads_of, writes_of};

@@ -8,19 +8,11 @@ ghost use Rattle.sites.specs.Infos.{Pairs, Shows, ShowsSites, numbered_sites};
 
 use crate::collect::{Next, Query, walk_all};
 use crate::info::{SiteList, SiteLists};
+use crate::numbers::after;
 use crate::outers::Outers;
 use c_tree::{Name, NameList, OutOfMemory, Param, Unit, array_names};
 use sqlite_items::Items;
 use std::alloc::Global;
-
-fn after(n: u32) -> Result<u32, OutOfMemory>
-    ensures { IfOk result (λ m. m ≡ suc n) }
-{
-    match n.checked_add(1) {
-        Some(m) => Ok(m),
-        None => Err(OutOfMemory),
-    }
-}
 
 fn after_int(n: u32, p: &Param) -> Result<u32, OutOfMemory>
     ensures { IfOk result (λ m. m ≡ n + length (ints_in (param p.now ∷ []))) }

@@ -8,6 +8,7 @@ ghost use Rattle.sites.specs.Infos.{AreSums, ShowsSubscript, ShowsSubscripts};
 ghost use Rattle.sites.specs.Variables.{IsUsable, variables_in};
 
 use crate::info::{Subscript, Subscripts};
+use crate::numbers::after;
 use crate::variables::{Variables, sum_at};
 use c_tree::{Affines, Expr, Exprs, Name, OutOfMemory};
 use sqlite_items::Items;
@@ -22,15 +23,6 @@ fn sums_at(alloc: Global, v: &Variables, es: &Exprs) -> Result<Affines, OutOfMem
         out.push(sum_at(alloc, v, e)?)?;
     }
     Ok(out)
-}
-
-fn after(n: u32) -> Result<u32, OutOfMemory>
-    ensures { IfOk result (λ m. m ≡ suc n) }
-{
-    match n.checked_add(1) {
-        Some(m) => Ok(m),
-        None => Err(OutOfMemory),
-    }
 }
 
 /// The number of an array, from 0.

@@ -9,6 +9,7 @@ ghost use Rattle.sites.specs.Outers.{outers_in};
 ghost use Rattle.sites.specs.Variables as spec;
 ghost use Rattle.sites.specs.Variables.{Holds, IsSum, IsUsable, counted_from, numbers_of, variables_around, variables_in};
 
+use crate::numbers::after;
 use crate::outers::Outers;
 use affine_sets::affine_of;
 use c_tree::{Affine, Expr, Name, NameList, OutOfMemory, Param, Terms, int_names, is_named};
@@ -20,15 +21,6 @@ use std::alloc::Global;
 pub struct Variables {
     pub names: NameList,
     pub numbers: Items<u32>,
-}
-
-fn after(n: u32) -> Result<u32, OutOfMemory>
-    ensures { IfOk result (λ m. m ≡ suc n) }
-{
-    match n.checked_add(1) {
-        Some(m) => Ok(m),
-        None => Err(OutOfMemory),
-    }
 }
 
 /// The numbers of these names, from 1 on.
@@ -52,12 +44,7 @@ fn of_params(alloc: Global, params: &[Param]) -> Result<Variables, OutOfMemory>
     Ok(Variables { names, numbers })
 }
 
-fn add(
-    alloc: Global,
-    v: &mut Variables,
-    x: &Name,
-    number: u32,
-) -> Result<(), OutOfMemory>
+fn add(alloc: Global, v: &mut Variables, x: &Name, number: u32) -> Result<(), OutOfMemory>
     ensures { OnOk result ((xs : List (List ℕ × ℕ)) → Holds v.old xs → Holds v.new (xs ++ (word x.now, number) ∷ [])) }
 {
     v.names.push(x.copy(alloc)?)?;
@@ -145,11 +132,7 @@ fn number_at(numbers: &[u32], i: u32) -> u32
     }
 }
 
-fn renumbered(
-    alloc: Global,
-    numbers: &[u32],
-    terms: &[(u32, i64)],
-) -> Result<Terms, OutOfMemory>
+fn renumbered(alloc: Global, numbers: &[u32], terms: &[(u32, i64)]) -> Result<Terms, OutOfMemory>
     ensures { IfOk result (λ ts. ts ≡ spec.renumbered numbers.now terms.now) }
 {
     let mut out = Items::new(alloc);
