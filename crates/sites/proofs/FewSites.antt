@@ -8,7 +8,7 @@ use Rattle.acceptance.specs.Items.{Item, Loop, items, items_all, tables_after}
 use Rattle.acceptance.specs.Limits.{cells_in, cells_in_all, reads_to, reads_of}
 use Rattle.acceptance.specs.Sources.{refusal}
 use Rattle.sites.specs.Classes.{number}
-use Rattle.sites.specs.Sites.{Outer, outer_loop, outer_branch, first_variable, Reach, Site, read_of, reads_in, reads_in_all, old_cell, accesses_of, placed, count, count_all, loops, loops_all, sites, sites_all, all_sites, sites_of, is_of}
+use Rattle.sites.specs.Sites.{Outer, outer_loop, outer_branch, first_variable, Reach, Site, read_of, reads_in, reads_in_all, accesses_of, placed, count, count_all, loops, loops_all, sites, sites_all, all_sites, sites_of, is_of}
 use Rattle.sites.proofs.SmallSites.{all_front, all_back}
 use Rattle.sites.proofs.Unrefused.{few_assignments, few_reads}
 

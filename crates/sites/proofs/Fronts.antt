@@ -1,5 +1,5 @@
 -- Lists that grow item by item beside another.
-use Rattle.std.proofs.Common.{◌≡◌, ℕ, suc, ◌+◌, ◌<◌, ◌≤◌, Bool, List, [], ◌∷◌, ◌++◌, drop, drop-cons, get_or, length, map, refl, sym, ap, ◌∙◌, subst, arith, Option, Some, true}
+use Rattle.std.proofs.Common.{◌≡◌, ℕ, suc, ◌+◌, ◌<◌, ◌≤◌, Bool, List, [], ◌∷◌, ◌++◌, drop, drop-cons, get_or, length, refl, sym, ap, ◌∙◌, subst, arith, Some, true}
 use Rattle.std.specs.Prelude.{slice_get, bytes_eq}
 use Rattle.std.proofs.lemmas.List.{drop_all}
 use Rattle.std.proofs.lemmas.Slice.Eq.{bytes_eq-Decides}
@@ -11,7 +11,7 @@ use Rattle.c_tree.specs.declared.expr.Rel.{Rel}
 use Rattle.c_tree.specs.declared.name.Name.{Name}
 use Rattle.acceptance.specs.Head.{list_of}
 use Rattle.acceptance.specs.Items.{Loop}
-use Rattle.sites.specs.Infos.{Front, Pairs, OuterLoop, OuterTests, ShowsBounds, ShowsCondition, ShowsLoop, ShowsTests, loops_around, tests_around}
+use Rattle.sites.specs.Infos.{Front, Pairs, ShowsBounds, ShowsCondition, ShowsLoop, ShowsTests, loops_around, tests_around}
 use Rattle.sites.specs.Sites.{Outer, outer_loop, outer_branch}
 use Rattle.sites.specs.Variables.{variables_around}
 use Rattle.sites.specs.declared.info.LoopInfo.{LoopInfo}

@@ -1,12 +1,12 @@
 -- Where variables are numbered anew in their order, a sum stays the sum of its expression.
-use Rattle.std.proofs.Common.{◌≡◌, ℕ, zero, suc, ◌+◌, ◌<◌, ◌≤◌, Bool, true, false, not, ◌&&◌, ◌||◌, cond, List, [], ◌∷◌, length, map, ℤ, pos, ◌+ℤ◌, refl, sym, ap, ◌∙◌, subst, nat_eq, nat_le, nat_lt, Option, Some, None, Result, Ok, Err, arith, inl, inr, ◌⊎◌}
+use Rattle.std.proofs.Common.{◌≡◌, ℕ, zero, suc, ◌+◌, ◌<◌, ◌≤◌, Bool, true, false, not, ◌&&◌, ◌||◌, cond, List, [], ◌∷◌, length, map, pos, ◌+ℤ◌, refl, sym, ap, ◌∙◌, subst, nat_eq, nat_le, nat_lt, Option, Some, Result, Ok, Err, arith, inl, inr, ◌⊎◌}
 use Rattle.std.specs.Result.{IfOk}
 use Rattle.std.specs.Option.{IfSome}
 use Rattle.std.proofs.lemmas.List.{length-map}
 use Rattle.c_tree.specs.Trees.{word}
 use Rattle.std.specs.List.{list_all, slice_get, AllByRecursion}
 use Rattle.std.specs.Ordering.{int_eq}
-use Rattle.std.proofs.lemmas.Bool.{and_parts, and_from, or_left, or_right, leb-true, le-leb, cases_lt, eq-eqb, ne_eqb, ltb-true}
+use Rattle.std.proofs.lemmas.Bool.{and_parts, and_from, leb-true, le-leb, cases_lt, eq-eqb, ne_eqb, ltb-true}
 use Rattle.c_tree.specs.Names.{words}
 use Rattle.c_tree.specs.Plain.{Word, PlainExpr}
 use Rattle.c_tree.specs.declared.affine.Affine.{Affine}

@@ -1,5 +1,5 @@
 -- The sites of an accepted source have small terms around them.
-use Rattle.std.proofs.Common.{◌≡◌, ℕ, suc, ◌+◌, Bool, true, false, not, cond, ◌&&◌, ◌||◌, List, [], ◌∷◌, ◌++◌, map, filter, refl, sym, ap, ◌∙◌, subst, Option, Some, None}
+use Rattle.std.proofs.Common.{◌≡◌, ℕ, suc, ◌+◌, Bool, true, false, cond, ◌&&◌, List, [], ◌∷◌, ◌++◌, filter, refl, sym, ap, ◌∙◌, subst, Option, Some, None}
 use Rattle.std.specs.List.{list_all, AllByRecursion}
 use Rattle.std.proofs.lemmas.Bool.{and_parts}
 use Rattle.c_tree.specs.Names.{ints_in}
@@ -7,12 +7,12 @@ use Rattle.c_tree.specs.Plain.{Word, PlainExpr, lit, var, cell, un, bin, cast, t
 use Rattle.c_tree.specs.declared.expr.BinOp.{BinOp}
 use Rattle.acceptance.specs.Affine.{constant, is_affine, is_affine_un, is_affine_bin, has_name, holds_throughout, is_small, has_small, loops_small, ints_small, has_small_terms}
 use Rattle.acceptance.specs.Head.{list_of}
-use Rattle.acceptance.specs.Items.{Item, Loop, Scope, scope_of, scope_at, items, items_all, tables_after}
-use Rattle.acceptance.specs.Parts.{has_signed, subscript_holds, subscripts_hold, parts_hold, item_parts_hold}
+use Rattle.acceptance.specs.Items.{Item, Loop, Scope, scope_of, items, items_all, tables_after}
+use Rattle.acceptance.specs.Parts.{has_signed, subscript_holds, subscripts_hold, parts_hold}
 use Rattle.acceptance.specs.Printed.{tests_fit}
 use Rattle.acceptance.specs.Sources.{refusal}
 use Rattle.sites.specs.Classes.{names_around}
-use Rattle.sites.specs.Sites.{Frame, in_loop, in_branch, Outer, outer_loop, outer_branch, bare, first_variable, Reach, Site, around, read_of, reads_in, reads_in_all, old_cell, accesses_of, placed, count, count_all, loops, loops_all, sites, sites_all, all_sites, sites_of, is_of}
+use Rattle.sites.specs.Sites.{Frame, in_loop, in_branch, Outer, outer_loop, outer_branch, bare, first_variable, Reach, read_of, reads_in, reads_in_all, old_cell, accesses_of, placed, count, count_all, loops, loops_all, sites, sites_all, all_sites, sites_of, is_of}
 use Rattle.sites.proofs.Agrees.{Small, AllSmall, TestsSmall, FramesSmall, SiteSmall}
 use Rattle.sites.proofs.Unrefused.{Linear, all_linear}
 

@@ -1,5 +1,5 @@
 -- How sites are collected: what a walk over accesses and statements adds to a list.
-use Rattle.std.specs.Prelude.{◌≡◌, ℕ, suc, ◌+◌, Bool, List, [], ◌∷◌, ◌++◌, length, map}
+use Rattle.std.specs.Prelude.{◌≡◌, ℕ, ◌+◌, Bool, List, ◌++◌, length, map}
 use Rattle.c_tree.specs.Names.{ints_in, words}
 use Rattle.c_tree.specs.Plain.{Word, PlainExprs, PlainStmt, PlainStmts}
 use Rattle.c_tree.specs.Trees.{param}

@@ -1,8 +1,8 @@
 -- What is known of a site, against the site.
-use Rattle.std.specs.Prelude.{◌≡◌, ℕ, suc, Bool, true, false, List, [], ◌∷◌, ◌++◌, map, filter, Option, Some}
+use Rattle.std.specs.Prelude.{◌≡◌, ℕ, suc, Bool, false, List, [], ◌∷◌, ◌++◌, filter, Some}
 use Rattle.std.specs.List.{slice_get}
 use Rattle.c_tree.specs.Names.{arrays_in, ints_in}
-use Rattle.c_tree.specs.Plain.{Word, PlainExpr, cell, PlainExprs, no_exprs, more_exprs, PlainTest, PlainParam, PlainUnit}
+use Rattle.c_tree.specs.Plain.{Word, PlainExpr, cell, PlainExprs, PlainTest, PlainUnit}
 use Rattle.c_tree.specs.declared.affine.Affine.{Affine}
 use Rattle.c_tree.specs.declared.expr.Rel.{Rel}
 use Rattle.acceptance.specs.Head.{list_of}

@@ -1,5 +1,5 @@
 -- The variables at a place, and the sums that affine expressions stand for there.
-use Rattle.std.specs.Prelude.{◌≡◌, ℕ, zero, suc, Bool, true, false, ◌&&◌, ◌||◌, nat_eq, nat_le, List, [], ◌∷◌, ◌++◌, length, map, ℤ, Option, Some, None}
+use Rattle.std.specs.Prelude.{◌≡◌, ℕ, zero, suc, Bool, true, false, ◌&&◌, ◌||◌, nat_eq, nat_le, List, [], ◌∷◌, ◌++◌, length, map, Option, Some, None}
 use Rattle.std.specs.List.{list_all, slice_get, AllByRecursion}
 use Rattle.c_tree.specs.Names.{words}
 use Rattle.c_tree.specs.Plain.{Word, PlainExpr}

@@ -1,13 +1,15 @@
 -- Worked sources: the classes of their arrays and the numbers of their sites.
-use Rattle.std.specs.Prelude.{ℕ, zero, suc, ◌+◌, Bool, true, false, List, [], ◌∷◌, ◌++◌, map, Some, None, codes}
-use Rattle.c_tree.specs.Names.{arrays_in}
-use Rattle.c_tree.specs.Plain.{Word, PlainExpr, lit, var, bin, PlainTest, PlainStmt, choice, assign, no_stmts, PlainUnit}
+use Rattle.std.specs.Prelude.{ℕ, zero, suc, ◌+◌, Bool, List, [], ◌∷◌, ◌++◌, map, Some, codes}
+use Rattle.c_tree.specs.Names.{arrays_in, ints_in}
+use Rattle.c_tree.specs.Plain.{Word, PlainExpr, lit, var, PlainTest, PlainStmt, choice, assign, no_stmts, PlainUnit}
 use Rattle.c_tree.specs.Trees.{stmts_of}
 use Rattle.c_tree.specs.declared.expr.Rel.TheVariants.{Lt}
 use Rattle.c_tree.specs.declared.expr.BinOp.TheVariants.{Add}
-use Rattle.acceptance.specs.WorkedSources.{at, i, lines_for, line, loop_to, many_ints, n, set, shift_of, shift_with, step}
+use Rattle.acceptance.specs.WorkedSources.{at, i, lines_for, line, loop_to, many_ints, n, set, shift_with, step}
 use Rattle.sites.specs.Classes.{class_of, number}
-use Rattle.sites.specs.Sites.{Outer, outer_loop, outer_branch, is_read, is_write, sites_of, all_sites}
+use Rattle.sites.specs.Infos.{numbered_sites}
+use Rattle.sites.specs.Sites.{Site, Outer, outer_loop, outer_branch, is_read, is_write, sites_of, all_sites}
+use Rattle.sites.specs.Variables.{variables_around}
 use Rattle.sites.specs.declared.class.Class.{Class}
 
 -- each array with its class and the numbers of its read and write sites
@@ -58,3 +60,11 @@ with_ints k = shift_with (lines_for k) (many_ints k) [] (loop_to (codes "i") n (
 -- A[i] += A[P[i]]
 abbrev pub added_through : PlainUnit
 added_through = with_all (assign (at (codes "A") i) (Some Add) (at (codes "A") (at (codes "P") i)) ∷ [])
+
+-- the numbers of an array's sites in the unit
+abbrev pub numbers : PlainUnit → Word → List ℕ
+numbers u x = map (λ (s : ℕ × Site). s.0) (numbered_sites u x)
+
+-- the variables at each of them
+abbrev pub variables : PlainUnit → Word → List (List (Word × ℕ))
+variables u x = map (λ (s : ℕ × Site). variables_around (ints_in u.params) s.1.outers) (numbered_sites u x)

@@ -1,8 +1,3 @@
-use Rattle.std.proofs.Common.{List, ap}
-use Rattle.c_tree.specs.Trees.{exprs}
-use Rattle.c_tree.specs.declared.expr.Expr.{Expr}
-use Rattle.sites.specs.Collected.{Reaches}
-use Rattle.sites.specs.Sites.{reads_in_all}
 use Rattle.sites.proofs.Collecting.{then_reaches, read_on, read_all, all_read, cell_reads, bin_reads, test_reads, min_reads, max_reads}
 use Rattle.sites.proofs.collect.+reads.Goals as goal
 

@@ -1,8 +1,7 @@
-use Rattle.std.proofs.Common.{List, map, ap, sym, ◌∙◌}
+use Rattle.std.proofs.Common.{List, map, ap, ◌∙◌}
 use Rattle.c_tree.specs.Names.{arrays_in, words}
 use Rattle.c_tree.specs.Trees as plain
 use Rattle.c_tree.specs.Trees.{param}
-use Rattle.c_tree.specs.declared.name.Name.{Name}
 use Rattle.c_tree.specs.declared.unit.Param.{Param}
 use Rattle.sites.specs.Infos.{ShowsSites}
 use Rattle.sites.proofs.Collecting.{of_arrays}

@@ -1,9 +1,7 @@
 use Rattle.std.proofs.Common.{List, map, ap, suc, length, ◌∙◌}
 use Rattle.c_tree.specs.Names.{ints_in}
-use Rattle.c_tree.specs.Trees as plain
 use Rattle.c_tree.specs.Trees.{param}
 use Rattle.c_tree.specs.declared.unit.Param.{Param}
-use Rattle.sites.specs.declared.collect.Query.{Query}
 use Rattle.sites.proofs.Collecting.{of_unit}
 use Rattle.sites.proofs.lists.sites_of_array.Goals as goal
 

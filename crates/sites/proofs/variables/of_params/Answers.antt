@@ -1,4 +1,4 @@
-use Rattle.std.proofs.Common.{List, map, ap, sym, ◌∙◌}
+use Rattle.std.proofs.Common.{List, map, ap, ◌∙◌}
 use Rattle.c_tree.specs.Names.{ints_in, words}
 use Rattle.c_tree.specs.Plain.{Word}
 use Rattle.c_tree.specs.Trees.{param}

@@ -1,4 +1,4 @@
-use Rattle.std.proofs.Common.{◌≡◌, Ok, Err, Result, ap, ◌∙◌, map}
+use Rattle.std.proofs.Common.{map}
 use Rattle.c_tree.specs.Names.{ints_in}
 use Rattle.c_tree.specs.Trees.{param}
 use Rattle.sites.specs.Outers.{outers_in}
