@@ -129,8 +129,6 @@ fn reads(
     ensures { IfOk result (λ r. Reaches place.now count (reads_in (expr e.now)) out.old out.new r) }
 {
     match e {
-        Expr::Lit(_) => Ok(count),
-        Expr::Var(_) => Ok(count),
         Expr::Cell(x, at) => {
             let next = reads_all(alloc, place, at, count, out)?;
             reach(alloc, place, x, at, false, next, out)
@@ -153,10 +151,8 @@ fn reads(
             let next = reads(alloc, place, a, count, out)?;
             reads(alloc, place, b, next, out)
         }
-        Expr::Least(_, _) => Ok(count),
-        Expr::Greatest(_, _) => Ok(count),
         Expr::Widen(a) => reads(alloc, place, a, count, out),
-        Expr::Big(_, _) => Ok(count),
+        _ => Ok(count),
     }
 }
 
@@ -272,21 +268,26 @@ fn next_loop(next: Next) -> Result<Next, OutOfMemory>
 
 fn assignment(
     alloc: Global,
-    place: &Place<'_, '_>,
+    query: &Query<'_>,
+    outers: &Outers<'_>,
     target: &Expr,
     op: Option<BinOp>,
     value: &Expr,
     next: Next,
     out: &mut SiteList,
 ) -> Result<Next, OutOfMemory>
-    requires { place.now.statement ≡ next.item }
-    ensures { IfOk result (λ r. Walked place.now.query.now (outers_in place.now.outers.now) (assign (expr target.now) op (expr value.now)) next out.old out.new r) }
+    ensures { IfOk result (λ r. Walked query.now (outers_in outers.now) (assign (expr target.now) op (expr value.now)) next out.old out.new r) }
 {
+    let place = Place {
+        query,
+        outers,
+        statement: next.item,
+    };
     let first = Count {
         position: 0,
         site: next.site,
     };
-    let count = accesses(alloc, place, target, op, value, first, out)?;
+    let count = accesses(alloc, &place, target, op, value, first, out)?;
     let item = after(next.item)?;
     Ok(Next {
         item,
@@ -326,12 +327,7 @@ fn walk<'q, 'x>(
             walk_all(alloc, q, &second, other, between, out)
         }
         Stmt::Assign { target, op, value } => {
-            let place = Place {
-                query: q,
-                outers,
-                statement: next.item,
-            };
-            assignment(alloc, &place, target, *op, value, next, out)
+            assignment(alloc, q, outers, target, *op, value, next, out)
         }
         Stmt::Table { .. } => next_item(next),
         Stmt::Begin => Ok(next),
