@@ -1,16 +1,15 @@
 -- Where terms are small throughout, the code finds those that the classes speak of.
-use Rattle.std.proofs.Common.{◌≡◌, ℕ, Bool, true, false, not, cond, ◌&&◌, ◌||◌, List, [], ◌∷◌, ◌++◌, length, filter, ℤ, pos, ◌-ℤ◌, refl, sym, ap, ◌∙◌, nat_le, Some}
+use Rattle.std.proofs.Common.{◌≡◌, Bool, true, false, not, cond, ◌&&◌, ◌||◌, List, [], ◌∷◌, length, filter, ℤ, pos, ◌-ℤ◌, refl, ap, ◌∙◌, nat_le}
 use Rattle.std.specs.Prelude.{if◌then◌else◌}
 use Rattle.std.specs.List.{list_all, list_any, AllByRecursion}
 use Rattle.std.specs.Ordering.{int_eq}
 use Rattle.c_tree.specs.Plain.{Word, PlainExpr, PlainExprs, no_exprs, more_exprs, PlainTest}
 use Rattle.acceptance.specs.Affine.{constant, coefficient, is_small, has_small}
-use Rattle.affine_checks.specs.Linear.{has_small_constant, constant as found_constant, terms}
-use Rattle.affine_checks.proofs.Terms.{where_true, constant_is, terms_are, both_throughout, other_holds}
-use Rattle.sites.specs.Classes.{Terms, exactly, form_from, is_plain, are_plain, is_good_test, are_good_tests, is_good_branch, are_good_frames, is_good, names, exprs_name, tests_name, frames_name, occurs, names_around, loops_in, is_near, is_plain_form, is_difference_form, is_unequal, with_term, number, is_irregular, are_differences, class_by}
+use Rattle.affine_checks.specs.Linear.{has_small_constant}
+use Rattle.affine_checks.proofs.Terms.{where_true, constant_is, terms_are, other_holds}
+use Rattle.sites.specs.Classes.{Terms, exactly, form_from, is_plain, are_plain, is_good_test, are_good_tests, is_good_branch, are_good_frames, is_good, names, exprs_name, tests_name, frames_name, occurs, names_around, loops_in, is_near, is_plain_form, is_difference_form, is_unequal, with_term, number, is_irregular, class_by}
 use Rattle.sites.specs.Sites.{Frame, in_loop, in_branch, Site, around, is_read, is_write}
 use Rattle.sites.specs.Small.{where_small, constant_or, coefficient_or}
-use Rattle.sites.specs.declared.class.Class.{Class}
 use Rattle.sites.specs.declared.class.Class.TheVariants.{Difference, Counted, Inspected}
 use Rattle.sites.specs.declared.form.Form.{Form}
 use Rattle.sites.specs.declared.form.Form.TheVariants.{Constant}

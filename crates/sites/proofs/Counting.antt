@@ -1,9 +1,9 @@
 -- The accesses that are counted are the sites that meet the test.
-use Rattle.std.proofs.Common.{◌≡◌, ℕ, zero, suc, ◌+◌, Bool, true, false, cond, ◌&&◌, List, [], ◌∷◌, ◌++◌, length, filter, map, refl, sym, ap, ◌∙◌, arith, length-append, Option, Some, None}
+use Rattle.std.proofs.Common.{◌≡◌, ℕ, suc, ◌+◌, Bool, true, false, cond, List, [], ◌∷◌, ◌++◌, length, filter, refl, ap, ◌∙◌, arith, length-append, Option, Some, None}
 use Rattle.std.proofs.lemmas.List.Elements.{filter-append}
 use Rattle.c_tree.specs.Plain.{Word, PlainExpr, lit, var, cell, un, bin, cast, test, umin, umax, least, greatest, widen, big, PlainExprs, no_exprs, more_exprs, PlainStmt, loop, choice, assign, table, begin, check, verdict, PlainStmts, no_stmts, more_stmts}
 use Rattle.c_tree.specs.declared.expr.BinOp.{BinOp}
-use Rattle.sites.specs.Sites.{Frame, in_loop, in_branch, Reach, Site, around, read_of, reads_in, reads_in_all, old_cell, accesses_of, placed, count, count_all, sites, sites_all}
+use Rattle.sites.specs.Sites.{Frame, Outer, outer_loop, outer_branch, bare, Reach, Site, around, read_of, reads_in, reads_in_all, old_cell, accesses_of, placed, count, count_all, loops, loops_all, sites, sites_all}
 use Rattle.sites.specs.Found.{bit, found_in, found_in_all, found_old, found_at, found, found_all}
 
 module _ {X : Type 0} (p : X → Bool) where
@@ -55,31 +55,29 @@ module _ (p : Reach → Bool) where
 abbrev meeting : (List Frame → Reach → Bool) → Site → Bool
 meeting p s = p (around s) s.reach
 
-abbrev bare : List (ℕ × Frame) → List Frame
-bare gs = map (λ (f : ℕ × Frame). f.1) gs
-
 module _ (p : List Frame → Reach → Bool) where
-  placed_counted : (n k : ℕ) (gs : List (ℕ × Frame)) (rs : List Reach) → length (filter (p (bare gs)) rs) ≡ length (filter (meeting p) (placed n k gs rs))
+  placed_counted : (n k : ℕ) (gs : List Outer) (rs : List Reach) → length (filter (p (bare gs)) rs) ≡ length (filter (meeting p) (placed n k gs rs))
   placed_counted n k gs [] = refl
   placed_counted n k gs (r ∷ rs) = by (p (bare gs) r) (placed_counted n (suc k) gs rs) where
     by : (b : Bool) → length (filter (p (bare gs)) rs) ≡ length (filter (meeting p) (placed n (suc k) gs rs))
         → length (cond b (r ∷ filter (p (bare gs)) rs) (filter (p (bare gs)) rs))
-        ≡ length (cond b ((let s : Site = record { statement = n; position = k; frames = gs; reach = r } in s) ∷ filter (meeting p) (placed n (suc k) gs rs)) (filter (meeting p) (placed n (suc k) gs rs)))
+        ≡ length (cond b ((let s : Site = record { statement = n; position = k; outers = gs; reach = r } in s) ∷ filter (meeting p) (placed n (suc k) gs rs)) (filter (meeting p) (placed n (suc k) gs rs)))
     by true rest = ap suc rest
     by false rest = rest
 
   mutual
-    counted_here : (s : PlainStmt) (n : ℕ) (gs : List (ℕ × Frame)) → found p s (bare gs) ≡ length (filter (meeting p) (sites s n gs))
-    counted_here (loop x lo rel hi body) n gs = counted_all body (suc n) ((n, in_loop (record { name = x; lo = lo; rel = rel; hi = hi })) ∷ gs)
-    counted_here (choice ts first other) n gs =
-        counted_append (meeting p) (sites_all first (suc n) ((n, in_branch true ts) ∷ gs)) (sites_all other (suc n + count_all first) ((n, in_branch false ts) ∷ gs)) _ _
-        (counted_all first (suc n) ((n, in_branch true ts) ∷ gs)) (counted_all other (suc n + count_all first) ((n, in_branch false ts) ∷ gs))
-    counted_here (assign target op e) n gs = counted_at (p (bare gs)) target op e ∙ placed_counted n 0 gs (accesses_of target op e)
-    counted_here (table x len) n gs = refl
-    counted_here begin n gs = refl
-    counted_here (check x extent a) n gs = refl
-    counted_here verdict n gs = refl
+    counted_here : (s : PlainStmt) (n v : ℕ) (gs : List Outer) → found p s (bare gs) ≡ length (filter (meeting p) (sites s n v gs))
+    counted_here (loop x lo rel hi body) n v gs = counted_all body (suc n) (suc v) (outer_loop n v (record { name = x; lo = lo; rel = rel; hi = hi }) ∷ gs)
+    counted_here (choice ts first other) n v gs =
+        counted_append (meeting p) (sites_all first (suc n) v (outer_branch n true ts ∷ gs)) (sites_all other (suc n + count_all first) (v + loops_all first) (outer_branch n false ts ∷ gs)) _ _
+        (counted_all first (suc n) v (outer_branch n true ts ∷ gs)) (counted_all other (suc n + count_all first) (v + loops_all first) (outer_branch n false ts ∷ gs))
+    counted_here (assign target op e) n v gs = counted_at (p (bare gs)) target op e ∙ placed_counted n 0 gs (accesses_of target op e)
+    counted_here (table x len) n v gs = refl
+    counted_here begin n v gs = refl
+    counted_here (check x extent a) n v gs = refl
+    counted_here verdict n v gs = refl
 
-    pub counted_all : (ss : PlainStmts) (n : ℕ) (gs : List (ℕ × Frame)) → found_all p ss (bare gs) ≡ length (filter (meeting p) (sites_all ss n gs))
-    counted_all no_stmts n gs = refl
-    counted_all (more_stmts s ss) n gs = counted_append (meeting p) (sites s n gs) (sites_all ss (n + count s) gs) _ _ (counted_here s n gs) (counted_all ss (n + count s) gs)
+    pub counted_all : (ss : PlainStmts) (n v : ℕ) (gs : List Outer) → found_all p ss (bare gs) ≡ length (filter (meeting p) (sites_all ss n v gs))
+    counted_all no_stmts n v gs = refl
+    counted_all (more_stmts s ss) n v gs =
+        counted_append (meeting p) (sites s n v gs) (sites_all ss (n + count s) (v + loops s) gs) _ _ (counted_here s n v gs) (counted_all ss (n + count s) (v + loops s) gs)

@@ -8,7 +8,7 @@ use Rattle.acceptance.specs.Items.{Item, Loop, items, items_all, tables_after}
 use Rattle.acceptance.specs.Limits.{cells_in, cells_in_all, reads_to, reads_of}
 use Rattle.acceptance.specs.Sources.{refusal}
 use Rattle.sites.specs.Classes.{number}
-use Rattle.sites.specs.Sites.{Frame, in_loop, in_branch, Reach, Site, read_of, reads_in, reads_in_all, old_cell, accesses_of, placed, count, count_all, sites, sites_all, all_sites, sites_of, is_of}
+use Rattle.sites.specs.Sites.{Outer, outer_loop, outer_branch, first_variable, Reach, Site, read_of, reads_in, reads_in_all, accesses_of, placed, count, count_all, loops, loops_all, sites, sites_all, all_sites, sites_of, is_of}
 use Rattle.sites.proofs.SmallSites.{all_front, all_back}
 use Rattle.sites.proofs.Unrefused.{few_assignments, few_reads}
 
@@ -63,7 +63,7 @@ few_accesses (greatest a b) op e = few_else e (reads_to (greatest a b) op)
 few_accesses (widen a) op e = few_else e (reads_to (widen a) op)
 few_accesses (big high low) op e = few_else e (reads_to (big high low) op)
 
-length-placed : (n k : ℕ) (gs : List (ℕ × Frame)) (rs : List Reach) → length (placed n k gs rs) ≡ length rs
+length-placed : (n k : ℕ) (gs : List Outer) (rs : List Reach) → length (placed n k gs rs) ≡ length rs
 length-placed n k gs [] = refl
 length-placed n k gs (r ∷ rs) = let h = length-placed n (suc k) gs rs in omega arith
 
@@ -71,36 +71,36 @@ abbrev FewReads : List Item → Type 0
 FewReads is = AllByRecursion (λ (i : Item). reads_of i.stmt ≤ 16) is
 
 mutual
-  few_sites : (s : PlainStmt) (n : ℕ) (gs : List (ℕ × Frame)) (ls : List Loop) (ws : List Word) → FewReads (items s ls ws) → length (sites s n gs) ≤ 17 * assignments s
-  few_sites (loop x lo rel hi body) n gs ls ws h =
+  few_sites : (s : PlainStmt) (n v : ℕ) (gs : List Outer) (ls : List Loop) (ws : List Word) → FewReads (items s ls ws) → length (sites s n v gs) ≤ 17 * assignments s
+  few_sites (loop x lo rel hi body) n v gs ls ws h =
       let l : Loop = record { name = x; lo = lo; rel = rel; hi = hi } in
-      all_few_sites body (suc n) ((n, in_loop l) ∷ gs) (l ∷ ls) ws h.1
-  few_sites (choice ts first other) n gs ls ws h =
-      let a = all_few_sites first (suc n) ((n, in_branch true ts) ∷ gs) ls ws (all_front (λ (i : Item). reads_of i.stmt ≤ 16) (items_all first ls ws) (items_all other ls ws) h.1) in
-      let b = all_few_sites other (suc n + count_all first) ((n, in_branch false ts) ∷ gs) ls ws (all_back (λ (i : Item). reads_of i.stmt ≤ 16) (items_all first ls ws) (items_all other ls ws) h.1) in
-      let c = length-append (sites_all first (suc n) ((n, in_branch true ts) ∷ gs)) (sites_all other (suc n + count_all first) ((n, in_branch false ts) ∷ gs)) in
+      all_few_sites body (suc n) (suc v) (outer_loop n v l ∷ gs) (l ∷ ls) ws h.1
+  few_sites (choice ts first other) n v gs ls ws h =
+      let a = all_few_sites first (suc n) v (outer_branch n true ts ∷ gs) ls ws (all_front (λ (i : Item). reads_of i.stmt ≤ 16) (items_all first ls ws) (items_all other ls ws) h.1) in
+      let b = all_few_sites other (suc n + count_all first) (v + loops_all first) (outer_branch n false ts ∷ gs) ls ws (all_back (λ (i : Item). reads_of i.stmt ≤ 16) (items_all first ls ws) (items_all other ls ws) h.1) in
+      let c = length-append (sites_all first (suc n) v (outer_branch n true ts ∷ gs)) (sites_all other (suc n + count_all first) (v + loops_all first) (outer_branch n false ts ∷ gs)) in
       omega arith
-  few_sites (assign target op e) n gs ls ws h =
+  few_sites (assign target op e) n v gs ls ws h =
       let a = length-placed n 0 gs (accesses_of target op e) in
       let b = few_accesses target op e in
       let c : reads_to target op + cells_in e ≤ 16 = h.0 in
       omega arith
-  few_sites (table x len) n gs ls ws h = omega arith
-  few_sites begin n gs ls ws h = omega arith
-  few_sites (check x extent a) n gs ls ws h = omega arith
-  few_sites verdict n gs ls ws h = omega arith
+  few_sites (table x len) n v gs ls ws h = omega arith
+  few_sites begin n v gs ls ws h = omega arith
+  few_sites (check x extent a) n v gs ls ws h = omega arith
+  few_sites verdict n v gs ls ws h = omega arith
 
-  all_few_sites : (ss : PlainStmts) (n : ℕ) (gs : List (ℕ × Frame)) (ls : List Loop) (ws : List Word) → FewReads (items_all ss ls ws) → length (sites_all ss n gs) ≤ 17 * all_assignments ss
-  all_few_sites no_stmts n gs ls ws h = omega arith
-  all_few_sites (more_stmts s ss) n gs ls ws h =
-      let a = few_sites s n gs ls ws (all_front (λ (i : Item). reads_of i.stmt ≤ 16) (items s ls ws) (items_all ss ls (tables_after s ws)) h) in
-      let b = all_few_sites ss (n + count s) gs ls (tables_after s ws) (all_back (λ (i : Item). reads_of i.stmt ≤ 16) (items s ls ws) (items_all ss ls (tables_after s ws)) h) in
-      let c = length-append (sites s n gs) (sites_all ss (n + count s) gs) in
+  all_few_sites : (ss : PlainStmts) (n v : ℕ) (gs : List Outer) (ls : List Loop) (ws : List Word) → FewReads (items_all ss ls ws) → length (sites_all ss n v gs) ≤ 17 * all_assignments ss
+  all_few_sites no_stmts n v gs ls ws h = omega arith
+  all_few_sites (more_stmts s ss) n v gs ls ws h =
+      let a = few_sites s n v gs ls ws (all_front (λ (i : Item). reads_of i.stmt ≤ 16) (items s ls ws) (items_all ss ls (tables_after s ws)) h) in
+      let b = all_few_sites ss (n + count s) (v + loops s) gs ls (tables_after s ws) (all_back (λ (i : Item). reads_of i.stmt ≤ 16) (items s ls ws) (items_all ss ls (tables_after s ws)) h) in
+      let c = length-append (sites s n v gs) (sites_all ss (n + count s) (v + loops s) gs) in
       omega arith
 
 pub few_all_sites : (u : PlainUnit) → refusal u ≡ None → length (all_sites u) ≤ 4352
 few_all_sites u e =
-    let a = all_few_sites u.body 1 [] [] [] (few_reads u e) in
+    let a = all_few_sites u.body 1 (first_variable u) [] [] [] (few_reads u e) in
     let b = few_assignments u e in
     omega arith
 

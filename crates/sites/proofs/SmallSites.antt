@@ -1,5 +1,5 @@
 -- The sites of an accepted source have small terms around them.
-use Rattle.std.proofs.Common.{◌≡◌, ℕ, suc, ◌+◌, Bool, true, false, not, cond, ◌&&◌, ◌||◌, List, [], ◌∷◌, ◌++◌, map, filter, refl, sym, ap, ◌∙◌, subst, Option, Some, None}
+use Rattle.std.proofs.Common.{◌≡◌, ℕ, suc, ◌+◌, Bool, true, false, cond, ◌&&◌, List, [], ◌∷◌, ◌++◌, filter, refl, sym, ap, ◌∙◌, subst, Option, Some, None}
 use Rattle.std.specs.List.{list_all, AllByRecursion}
 use Rattle.std.proofs.lemmas.Bool.{and_parts}
 use Rattle.c_tree.specs.Names.{ints_in}
@@ -7,12 +7,12 @@ use Rattle.c_tree.specs.Plain.{Word, PlainExpr, lit, var, cell, un, bin, cast, t
 use Rattle.c_tree.specs.declared.expr.BinOp.{BinOp}
 use Rattle.acceptance.specs.Affine.{constant, is_affine, is_affine_un, is_affine_bin, has_name, holds_throughout, is_small, has_small, loops_small, ints_small, has_small_terms}
 use Rattle.acceptance.specs.Head.{list_of}
-use Rattle.acceptance.specs.Items.{Item, Loop, Scope, scope_of, scope_at, items, items_all, tables_after}
-use Rattle.acceptance.specs.Parts.{has_signed, subscript_holds, subscripts_hold, parts_hold, item_parts_hold}
+use Rattle.acceptance.specs.Items.{Item, Loop, Scope, scope_of, items, items_all, tables_after}
+use Rattle.acceptance.specs.Parts.{has_signed, subscript_holds, subscripts_hold, parts_hold}
 use Rattle.acceptance.specs.Printed.{tests_fit}
 use Rattle.acceptance.specs.Sources.{refusal}
 use Rattle.sites.specs.Classes.{names_around}
-use Rattle.sites.specs.Sites.{Frame, in_loop, in_branch, Reach, Site, around, read_of, reads_in, reads_in_all, old_cell, accesses_of, placed, count, count_all, sites, sites_all, all_sites, sites_of, is_of}
+use Rattle.sites.specs.Sites.{Frame, in_loop, in_branch, Outer, outer_loop, outer_branch, bare, first_variable, Reach, read_of, reads_in, reads_in_all, old_cell, accesses_of, placed, count, count_all, loops, loops_all, sites, sites_all, all_sites, sites_of, is_of}
 use Rattle.sites.proofs.Agrees.{Small, AllSmall, TestsSmall, FramesSmall, SiteSmall}
 use Rattle.sites.proofs.Unrefused.{Linear, all_linear}
 
@@ -210,46 +210,43 @@ module _ (u : PlainUnit) where
 
   -- ---- statements
 
-  abbrev bare : List (ℕ × Frame) → List Frame
-  bare gs = map (λ (f : ℕ × Frame). f.1) gs
-
   abbrev AllLinear : List Item → Type 0
   AllLinear is = AllByRecursion (Linear u) is
 
-  placed_small : (n k : ℕ) (gs : List (ℕ × Frame)) (ws : List Word) (rs : List Reach) → FramesSmall ints (bare gs) → AllByRecursion (IsSmall (bare gs) ws) rs → AllByRecursion (SiteSmall ints) (placed n k gs rs)
+  placed_small : (n k : ℕ) (gs : List Outer) (ws : List Word) (rs : List Reach) → FramesSmall ints (bare gs) → AllByRecursion (IsSmall (bare gs) ws) rs → AllByRecursion (SiteSmall ints) (placed n k gs rs)
   placed_small n k gs ws [] f h = tt
   placed_small n k gs ws (r ∷ rs) f h = (record { frames_small = f; subscripts_small = h.0 }, placed_small n (suc k) gs ws rs f h.1)
 
   mutual
-    sites_small : (s : PlainStmt) (n : ℕ) (gs : List (ℕ × Frame)) (ws : List Word) → AllLinear (items s (loops_of (bare gs)) ws) → FramesSmall ints (bare gs) → AllByRecursion (SiteSmall ints) (sites s n gs)
-    sites_small (loop x lo rel hi body) n gs ws h f =
+    sites_small : (s : PlainStmt) (n v : ℕ) (gs : List Outer) (ws : List Word) → AllLinear (items s (loops_of (bare gs)) ws) → FramesSmall ints (bare gs) → AllByRecursion (SiteSmall ints) (sites s n v gs)
+    sites_small (loop x lo rel hi body) n v gs ws h f =
         let sc = scope_of u (loops_of (bare gs)) ws in
         let l : Loop = record { name = x; lo = lo; rel = rel; hi = hi } in
         let g = and_parts (has_small_terms sc lo) (has_small_terms sc hi) h.0.small in
-        all_sites_small body (suc n) ((n, in_loop l) ∷ gs) ws h.1 (its_small (bare gs) ws lo g.0, (its_small (bare gs) ws hi g.1, f))
-    sites_small (choice ts first other) n gs ws h f =
+        all_sites_small body (suc n) (suc v) (outer_loop n v l ∷ gs) ws h.1 (its_small (bare gs) ws lo g.0, (its_small (bare gs) ws hi g.1, f))
+    sites_small (choice ts first other) n v gs ws h f =
         let ls = loops_of (bare gs) in
         let g = tests_small (bare gs) ws ts h.0.small in
-        all_append (SiteSmall ints) (sites_all first (suc n) ((n, in_branch true ts) ∷ gs)) (sites_all other (suc n + count_all first) ((n, in_branch false ts) ∷ gs))
-        (all_sites_small first (suc n) ((n, in_branch true ts) ∷ gs) ws (all_front (Linear u) (items_all first ls ws) (items_all other ls ws) h.1) (g, f))
-        (all_sites_small other (suc n + count_all first) ((n, in_branch false ts) ∷ gs) ws (all_back (Linear u) (items_all first ls ws) (items_all other ls ws) h.1) (g, f))
-    sites_small (assign target op e) n gs ws h f =
+        all_append (SiteSmall ints) (sites_all first (suc n) v (outer_branch n true ts ∷ gs)) (sites_all other (suc n + count_all first) (v + loops_all first) (outer_branch n false ts ∷ gs))
+        (all_sites_small first (suc n) v (outer_branch n true ts ∷ gs) ws (all_front (Linear u) (items_all first ls ws) (items_all other ls ws) h.1) (g, f))
+        (all_sites_small other (suc n + count_all first) (v + loops_all first) (outer_branch n false ts ∷ gs) ws (all_back (Linear u) (items_all first ls ws) (items_all other ls ws) h.1) (g, f))
+    sites_small (assign target op e) n v gs ws h f =
         let sc = scope_of u (loops_of (bare gs)) ws in
         let a = and_parts (parts_hold (is_affine sc) sc target) (parts_hold (is_affine sc) sc e) h.0.affine in
         let b = and_parts (parts_hold (has_small_terms sc) sc target) (parts_hold (has_small_terms sc) sc e) h.0.small in
         placed_small n 0 gs ws (accesses_of target op e) f (accesses_small (bare gs) ws target op e a.0 b.0 a.1 b.1)
-    sites_small (table x len) n gs ws h f = tt
-    sites_small begin n gs ws h f = tt
-    sites_small (check x extent a) n gs ws h f = tt
-    sites_small verdict n gs ws h f = tt
+    sites_small (table x len) n v gs ws h f = tt
+    sites_small begin n v gs ws h f = tt
+    sites_small (check x extent a) n v gs ws h f = tt
+    sites_small verdict n v gs ws h f = tt
 
-    all_sites_small : (ss : PlainStmts) (n : ℕ) (gs : List (ℕ × Frame)) (ws : List Word) → AllLinear (items_all ss (loops_of (bare gs)) ws) → FramesSmall ints (bare gs) → AllByRecursion (SiteSmall ints) (sites_all ss n gs)
-    all_sites_small no_stmts n gs ws h f = tt
-    all_sites_small (more_stmts s ss) n gs ws h f =
+    all_sites_small : (ss : PlainStmts) (n v : ℕ) (gs : List Outer) (ws : List Word) → AllLinear (items_all ss (loops_of (bare gs)) ws) → FramesSmall ints (bare gs) → AllByRecursion (SiteSmall ints) (sites_all ss n v gs)
+    all_sites_small no_stmts n v gs ws h f = tt
+    all_sites_small (more_stmts s ss) n v gs ws h f =
         let ls = loops_of (bare gs) in
-        all_append (SiteSmall ints) (sites s n gs) (sites_all ss (n + count s) gs)
-        (sites_small s n gs ws (all_front (Linear u) (items s ls ws) (items_all ss ls (tables_after s ws)) h) f)
-        (all_sites_small ss (n + count s) gs (tables_after s ws) (all_back (Linear u) (items s ls ws) (items_all ss ls (tables_after s ws)) h) f)
+        all_append (SiteSmall ints) (sites s n v gs) (sites_all ss (n + count s) (v + loops s) gs)
+        (sites_small s n v gs ws (all_front (Linear u) (items s ls ws) (items_all ss ls (tables_after s ws)) h) f)
+        (all_sites_small ss (n + count s) (v + loops s) gs (tables_after s ws) (all_back (Linear u) (items s ls ws) (items_all ss ls (tables_after s ws)) h) f)
 
   pub unit_small : refusal u ≡ None → (x : Word) → AllByRecursion (SiteSmall ints) (sites_of u x)
-  unit_small e x = all_filtered (SiteSmall ints) (is_of x) (all_sites u) (all_sites_small u.body 1 [] [] (all_linear u e) tt)
+  unit_small e x = all_filtered (SiteSmall ints) (is_of x) (all_sites u) (all_sites_small u.body 1 (first_variable u) [] [] (all_linear u e) tt)

@@ -1,15 +1,15 @@
 -- Where a source isn't refused, a condition holds at none of its items, and no count is over its limit.
-use Rattle.std.proofs.Common.{◌≡◌, ℕ, zero, suc, ◌≤◌, Bool, true, false, cond, ◌&&◌, not, List, [], ◌∷◌, Option, Some, None, refl, sym, ap}
+use Rattle.std.proofs.Common.{◌≡◌, ℕ, zero, suc, ◌≤◌, Bool, true, false, cond, ◌&&◌, List, [], ◌∷◌, Option, Some, None, refl, sym, ap}
 use Rattle.std.specs.Prelude.{slice_get, nat_lt}
 use Rattle.std.specs.List.{AllByRecursion}
 use Rattle.std.proofs.lemmas.Bool.{and_parts, not-false, ltb-false}
 use Rattle.c_tree.specs.Plain.{PlainUnit}
 use Rattle.c_tree.specs.Instances.{sites_all}
 use Rattle.c_tree.specs.declared.refusal.Counted.{Counted}
-use Rattle.c_tree.specs.declared.refusal.Counted.TheVariants.{Depth, Reads, Statements}
+use Rattle.c_tree.specs.declared.refusal.Counted.TheVariants.{Reads, Statements}
 use Rattle.acceptance.specs.Affine.{is_affine, has_small_terms}
 use Rattle.acceptance.specs.Items.{Item, items_all, Condition, first_where, least_item, lowest, scope_at}
-use Rattle.acceptance.specs.Limits.{Excess, depth, reads_of, overall, first_over, first_excess, counts, too_many}
+use Rattle.acceptance.specs.Limits.{Excess, reads_of, overall, first_over, first_excess, counts, too_many}
 use Rattle.acceptance.specs.Parts.{item_parts_hold}
 use Rattle.acceptance.specs.Sources.{assigns_data, not_affine, coefficient_too_large, item_of, judged, refusal}
 

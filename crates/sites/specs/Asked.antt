@@ -1,5 +1,5 @@
 -- How many sites of an array meet a test.
-use Rattle.std.specs.Prelude.{ℕ, List, map, filter, length}
+use Rattle.std.specs.Prelude.{ℕ, List, map, filter}
 use Rattle.std.specs.List.{list_any}
 use Rattle.c_tree.specs.Names.{ints_in}
 use Rattle.c_tree.specs.Plain.{Word}

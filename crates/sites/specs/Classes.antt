@@ -1,13 +1,12 @@
 -- The classes of arrays.
-use Rattle.std.specs.Prelude.{ℕ, suc, ◌^◌, Bool, true, false, not, ◌&&◌, ◌||◌, if◌then◌else◌, nat_le, List, [], ◌∷◌, map, filter, length, ℤ, pos, neg_ℤ, ◌-ℤ◌}
+use Rattle.std.specs.Prelude.{ℕ, suc, Bool, true, false, not, ◌&&◌, ◌||◌, if◌then◌else◌, nat_le, List, [], ◌∷◌, filter, length, ℤ, pos, neg_ℤ, ◌-ℤ◌}
 use Rattle.std.specs.Ordering.{int_eq}
 use Rattle.std.specs.List.{list_all, list_any}
 use Rattle.c_tree.specs.Names.{ints_in}
 use Rattle.c_tree.specs.Plain.{Word, PlainExpr, PlainExprs, no_exprs, more_exprs, PlainTest, PlainUnit}
 use Rattle.c_tree.specs.declared.expr.Rel.{Rel}
-use Rattle.c_tree.specs.declared.expr.Rel.TheVariants.{Lt, Le, Gt, Ge, Eq, Ne}
+use Rattle.c_tree.specs.declared.expr.Rel.TheVariants.{Eq, Ne}
 use Rattle.acceptance.specs.Affine.{lies_in, constant, coefficient}
-use Rattle.acceptance.specs.Items.{Loop}
 use Rattle.acceptance.specs.Parts.{is_cell}
 use Rattle.sites.specs.Sites.{Frame, in_loop, in_branch, Reach, Site, around, is_read, is_write, sites_of}
 use Rattle.sites.specs.declared.class.Class.{Class}

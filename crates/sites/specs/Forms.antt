@@ -2,7 +2,7 @@
 use Rattle.std.specs.Prelude.{Bool, ◌&&◌, List, ℤ, ◌-ℤ◌}
 use Rattle.c_tree.specs.Plain.{Word}
 use Rattle.c_tree.specs.Trees.{expr}
-use Rattle.sites.specs.Classes.{Terms, form, is_near, is_plain_form, is_difference_form}
+use Rattle.sites.specs.Classes.{form, is_near, is_plain_form, is_difference_form}
 use Rattle.sites.specs.Small.{where_small}
 use Rattle.sites.specs.declared.form.Sum.{Sum}
 use Rattle.sites.specs.declared.form.Sum.TheVariants.{One, Difference}

@@ -6,3 +6,7 @@ pub mod Shown
 pub mod Sites
 pub mod Small
 pub mod Worked
+pub mod Variables
+pub mod Outers
+pub mod Infos
+pub mod Collected

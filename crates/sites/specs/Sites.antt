@@ -1,5 +1,6 @@
 -- The sites of a source: its reads and writes of arrays, in text and access order.
-use Rattle.std.specs.Prelude.{ℕ, suc, ◌+◌, Bool, true, false, List, [], ◌∷◌, ◌++◌, map, filter, not, Option, Some, None, bytes_eq}
+use Rattle.std.specs.Prelude.{ℕ, suc, ◌+◌, Bool, true, false, List, [], ◌∷◌, ◌++◌, map, filter, length, not, Option, Some, None, bytes_eq}
+use Rattle.c_tree.specs.Names.{ints_in}
 use Rattle.c_tree.specs.Plain.{Word, PlainExpr, lit, var, cell, un, bin, cast, test, umin, umax, least, greatest, widen, big, PlainExprs, no_exprs, more_exprs, PlainTest, PlainStmt, loop, choice, assign, table, begin, check, verdict, PlainStmts, no_stmts, more_stmts, PlainUnit}
 use Rattle.c_tree.specs.declared.expr.BinOp.{BinOp}
 use Rattle.acceptance.specs.Items.{Loop}
@@ -15,15 +16,27 @@ pub record Reach : Type 0 where
   pub at : PlainExprs
   pub writes : Bool
 
--- An access in its place: the number of its statement, the how manieth access of that it is, and what stands around it with the number of each item, the innermost first.
+-- a frame with the number of its item, and in a loop with that of its variable
+pub data Outer : Type 0 where
+  outer_loop : ℕ → ℕ → Loop → Outer
+  outer_branch : ℕ → Bool → List PlainTest → Outer
+
+abbrev pub frame_of : Outer → Frame
+frame_of (outer_loop n v l) = in_loop l
+frame_of (outer_branch n first ts) = in_branch first ts
+
+abbrev pub bare : List Outer → List Frame
+bare = map frame_of
+
+-- An access in its place: the number of its statement, the how manieth access of that it is, and what stands around it, the innermost first.
 pub record Site : Type 0 where
   pub statement : ℕ
   pub position : ℕ
-  pub frames : List (ℕ × Frame)
+  pub outers : List Outer
   pub reach : Reach
 
 abbrev pub around : Site → List Frame
-around s = map (λ (f : ℕ × Frame). f.1) s.frames
+around s = bare s.outers
 
 -- ---- the accesses of an assignment
 
@@ -62,9 +75,9 @@ accesses_of _ op e = reads_in e
 
 -- ---- the sites of a unit
 
-abbrev pub placed : ℕ → ℕ → List (ℕ × Frame) → List Reach → List Site
-placed statement position frames [] = []
-placed statement position frames (r ∷ rs) = record { statement = statement; position = position; frames = frames; reach = r } ∷ placed statement (suc position) frames rs
+abbrev pub placed : ℕ → ℕ → List Outer → List Reach → List Site
+placed statement position os [] = []
+placed statement position os (r ∷ rs) = record { statement = statement; position = position; outers = os; reach = r } ∷ placed statement (suc position) os rs
 
 -- how many items there are: loops, `if`s and assignments
 abbrev mutual
@@ -81,24 +94,44 @@ abbrev mutual
   count_all no_stmts = 0
   count_all (more_stmts s ss) = count s + count_all ss
 
--- in text order, the statement having the number n
+-- how many loops
 abbrev mutual
-  pub sites : PlainStmt → ℕ → List (ℕ × Frame) → List Site
-  sites (loop x lo rel hi body) n fs = sites_all body (suc n) ((n, in_loop (record { name = x; lo = lo; rel = rel; hi = hi })) ∷ fs)
-  sites (choice ts first other) n fs = sites_all first (suc n) ((n, in_branch true ts) ∷ fs) ++ sites_all other (suc n + count_all first) ((n, in_branch false ts) ∷ fs)
-  sites (assign target op e) n fs = placed n 0 fs (accesses_of target op e)
-  sites (table x len) n fs = []
-  sites begin n fs = []
-  sites (check x extent a) n fs = []
-  sites verdict n fs = []
+  pub loops : PlainStmt → ℕ
+  loops (loop x lo rel hi body) = suc (loops_all body)
+  loops (choice ts first other) = loops_all first + loops_all other
+  loops (assign target op e) = 0
+  loops (table x len) = 0
+  loops begin = 0
+  loops (check x extent a) = 0
+  loops verdict = 0
 
-  pub sites_all : PlainStmts → ℕ → List (ℕ × Frame) → List Site
-  sites_all no_stmts n fs = []
-  sites_all (more_stmts s ss) n fs = sites s n fs ++ sites_all ss (n + count s) fs
+  pub loops_all : PlainStmts → ℕ
+  loops_all no_stmts = 0
+  loops_all (more_stmts s ss) = loops s + loops_all ss
+
+-- in text order, the statement having the number n, and the variable of the next loop the number v
+abbrev mutual
+  pub sites : PlainStmt → ℕ → ℕ → List Outer → List Site
+  sites (loop x lo rel hi body) n v os = sites_all body (suc n) (suc v) (outer_loop n v (record { name = x; lo = lo; rel = rel; hi = hi }) ∷ os)
+  sites (choice ts first other) n v os =
+      sites_all first (suc n) v (outer_branch n true ts ∷ os) ++ sites_all other (suc n + count_all first) (v + loops_all first) (outer_branch n false ts ∷ os)
+  sites (assign target op e) n v os = placed n 0 os (accesses_of target op e)
+  sites (table x len) n v os = []
+  sites begin n v os = []
+  sites (check x extent a) n v os = []
+  sites verdict n v os = []
+
+  pub sites_all : PlainStmts → ℕ → ℕ → List Outer → List Site
+  sites_all no_stmts n v os = []
+  sites_all (more_stmts s ss) n v os = sites s n v os ++ sites_all ss (n + count s) (v + loops s) os
+
+-- Variables are numbered from 1: the `int64_t` parameters in declared order, then the loops in text order.
+abbrev pub first_variable : PlainUnit → ℕ
+first_variable u = suc (length (ints_in u.params))
 
 -- The number of a site is its place in this list, from 0.
 abbrev pub all_sites : PlainUnit → List Site
-all_sites u = sites_all u.body 1 []
+all_sites u = sites_all u.body 1 (first_variable u) []
 
 abbrev pub is_of : Word → Site → Bool
 is_of x s = bytes_eq x s.reach.name

@@ -5,7 +5,7 @@ ghost use Rattle.acceptance.specs.WorkedSources.{added_to, at, gather, gathered,
 ghost use Rattle.c_tree.specs.Plain.{bin, lit};
 ghost use Rattle.c_tree.specs.declared.expr.BinOp.TheVariants.{Add, Sub, Mul};
 ghost use Rattle.c_tree.specs.declared.expr.Rel.TheVariants.{Lt, Le, Gt, Ge, Eq, Ne};
-ghost use Rattle.sites.specs.Worked.{a_class, added_through, around_each, arrays, listed, steps, under, under_else, with_all, with_ints, written_at};
+ghost use Rattle.sites.specs.Worked.{a_class, added_through, around_each, arrays, listed, numbers, steps, under, under_else, variables, with_all, with_ints, written_at};
 ghost use Rattle.sites.specs.declared.class.Class.TheVariants.{Counted, Difference, Inspected};
 
 /// The arrays of worked sources, each with its class and the numbers of its read and write sites.
@@ -53,5 +53,8 @@ pub fn worked_sites()
     ensures old_cell_first { listed added_through ≡ (2, 0, codes "A", false) ∷ (2, 1, codes "P", false) ∷ (2, 2, codes "A", false) ∷ (2, 3, codes "A", true) ∷ [] }
     ensures reads_then_write { listed shift ≡ (2, 0, codes "A", false) ∷ (2, 1, codes "A", true) ∷ [] }
     ensures statements { listed (under_else ((Lt, i, n) ∷ [])) ≡ (3, 0, codes "A", false) ∷ (3, 1, codes "A", true) ∷ (4, 0, codes "A", false) ∷ (4, 1, codes "A", true) ∷ [] }
+    ensures numbers { numbers mix (codes "C") ≡ 2 ∷ 3 ∷ [] }
+    ensures variables { variables jacobi (codes "B") ≡ ((codes "t", 1) ∷ (codes "n", 2) ∷ (codes "s", 3) ∷ (codes "i", 4) ∷ [])
+        ∷ ((codes "t", 1) ∷ (codes "n", 2) ∷ (codes "s", 3) ∷ (codes "i", 5) ∷ []) ∷ [] }
     ensures items { around_each (under_else ((Lt, i, n) ∷ [])) ≡ (2 ∷ 1 ∷ []) ∷ (2 ∷ 1 ∷ []) ∷ (1 ∷ []) ∷ (1 ∷ []) ∷ [] }
 {}

@@ -13,3 +13,9 @@ returns-clause-statements c = refl
 
 pub returns-clause-items : goal.returns-clause-items
 returns-clause-items c = refl
+
+pub returns-clause-numbers : goal.returns-clause-numbers
+returns-clause-numbers c = refl
+
+pub returns-clause-variables : goal.returns-clause-variables
+returns-clause-variables c = refl

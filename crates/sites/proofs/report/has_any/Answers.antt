@@ -1,5 +1,5 @@
 use Rattle.sites.specs.Asked.{number_asked}
-use Rattle.sites.proofs.Lists.{some_up_to}
+use Rattle.sites.proofs.Filtered.{some_up_to}
 use Rattle.sites.proofs.report.has_any.Goals as goal
 
 pub returns : goal.returns

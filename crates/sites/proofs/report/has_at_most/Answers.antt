@@ -1,5 +1,5 @@
 use Rattle.sites.specs.Asked.{number_asked}
-use Rattle.sites.proofs.Lists.{most_up_to}
+use Rattle.sites.proofs.Filtered.{most_up_to}
 use Rattle.sites.proofs.report.has_at_most.Goals as goal
 
 pub returns : goal.returns

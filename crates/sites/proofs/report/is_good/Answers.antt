@@ -3,7 +3,7 @@ use Rattle.sites.specs.Asked.{ints_of, sites_in}
 use Rattle.sites.specs.Classes as spec
 use Rattle.sites.specs.Sites.{around}
 use Rattle.sites.specs.Small.{where_small}
-use Rattle.sites.proofs.Lists.{all_counted}
+use Rattle.sites.proofs.Filtered.{all_counted}
 use Rattle.sites.proofs.report.is_good.Goals as goal
 
 pub returns : goal.returns

@@ -1,7 +1,7 @@
 use Rattle.std.proofs.Common.{sym, ◌∙◌}
 use Rattle.sites.specs.Asked.{sites_in}
 use Rattle.sites.specs.Classes as spec
-use Rattle.sites.proofs.Lists.{any_counted}
+use Rattle.sites.proofs.Filtered.{any_counted}
 use Rattle.sites.proofs.report.is_irregular.Goals as goal
 
 pub returns : goal.returns

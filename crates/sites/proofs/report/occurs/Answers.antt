@@ -3,7 +3,7 @@ use Rattle.sites.specs.Asked.{sites_in}
 use Rattle.sites.specs.Classes as spec
 use Rattle.sites.specs.Sites.{around}
 use Rattle.sites.specs.Small.{where_small}
-use Rattle.sites.proofs.Lists.{any_counted}
+use Rattle.sites.proofs.Filtered.{any_counted}
 use Rattle.sites.proofs.report.occurs.Goals as goal
 
 pub returns : goal.returns
