@@ -1,7 +1,7 @@
 pub mod Clauses
 pub mod Endings
 pub mod Framed
-pub mod Heads
+pub mod HeadsMade
 pub mod Named
 pub mod Plans
 pub mod Shown

@@ -39,7 +39,7 @@ use Rattle.balance_cli.specs.declared.judging.Wanted.{Wanted}
 use Rattle.balance_cli.specs.declared.judging.Wanted.TheVariants as wanted
 use Rattle.balance_cli.proofs.Endings.{IsDecided, IsGiven, IsSound}
 use Rattle.balance_cli.proofs.Framed.{frame_of_form}
-use Rattle.balance_cli.proofs.Heads.{made_head}
+use Rattle.balance_cli.proofs.HeadsMade.{made_head}
 use Rattle.balance_cli.proofs.TextLaws.{TextLaws, judged_once, taken_or_refused}
 
 -- what the crates below say

@@ -235,3 +235,9 @@ no_none o v some none = cc
 pub printed_tree : (a : PlainUnit) (v : ℕ) → a.version ≡ Some v → IsSourceTree a ⊎ IsPrintedTree a → IsPrintedTree a
 printed_tree a v some (inl tree) = absurd (no_none a.version v some tree.version)
 printed_tree a v some (inr tree) = tree
+
+pub unbuilt_here : (kind : Wanted) (text : List ℕ) (a : PlainUnit) → IsText text a → IsInPlace kind text → lowest (judged_of a) ≡ None → (IsOneLoop a → ⊥) → (kind ≡ Source) ⊎ (kind ≡ AnyText) → IsTaken kind text (Err refusal.Unbuilt)
+unbuilt_here Source text a is place none other built = unbuilt_source text a is place none other
+unbuilt_here AnyText text a is place none other built = unbuilt_text text a is none other
+unbuilt_here AnySource text a is place none other (inl e) = absurd (let no : ⊥ = cc in no)
+unbuilt_here AnySource text a is place none other (inr e) = absurd (let no : ⊥ = cc in no)

@@ -5,7 +5,7 @@ ghost use Rattle.c_tree.specs.OneLoop.{IsOneLoop};
 ghost use Rattle.c_tree.specs.Trees.{unit as unit_in};
 ghost use Rattle.balance_cli.specs.Stages.{IsDataStop, IsRead};
 
-use crate::frames::frame_of;
+use crate::heads::frame_of;
 use c_tree::{Frame, Inputs, Unit};
 use command_line::{Stop, data_refusal_text};
 use data_file::{DataRefusal, read_data};

@@ -7,7 +7,7 @@ ghost use Rattle.std.specs.Prelude.{◌≡◌, IfOk, drop};
 ghost use Rattle.std.specs.Vec.Iter.{into_iter_items};
 
 mod call;
-mod frames;
+mod heads;
 mod inputs;
 mod judging;
 mod runs;

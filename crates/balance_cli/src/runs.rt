@@ -9,7 +9,7 @@ ghost use Rattle.interp.specs.Finished.{inputs_in, verdict_in};
 ghost use Rattle.balance_cli.specs.Runs.{finish_of as finish_at, IsShown, IsRun, IsTried};
 ghost use Rattle.command_line.specs.declared.outcome.Stop.TheVariants.{NoMemory};
 
-use crate::frames::frame_of;
+use crate::heads::frame_of;
 use c_tree::{Ended, Frame, Inputs, Unit, Verdict};
 use command_line::{Finish, Output, Stop};
 use data_file::output;

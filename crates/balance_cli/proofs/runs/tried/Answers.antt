@@ -5,7 +5,7 @@ use Rattle.data_file.specs.Texts.{output_text}
 use Rattle.interp.specs.Finished.{inputs_in}
 use Rattle.balance_cli.specs.Runs.{finish_of}
 use Rattle.balance_cli.proofs.Framed.{few_params, few_made}
-use Rattle.balance_cli.proofs.Heads.{made_head, spelled_by}
+use Rattle.balance_cli.proofs.HeadsMade.{made_head, spelled_by}
 use Rattle.balance_cli.proofs.Named.{AllUnchecked}
 use Rattle.balance_cli.proofs.Shown.{ends_of, weaker}
 use Rattle.balance_cli.proofs.Unchecked.{guarded_unchecked}

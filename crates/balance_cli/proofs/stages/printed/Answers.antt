@@ -1,6 +1,6 @@
 use Rattle.std.proofs.Common.{◌∙◌, refl}
 use Rattle.c_tree.specs.Trees.{unit as unit_of}
-use Rattle.balance_cli.proofs.Heads.{made_head, spelled_by}
+use Rattle.balance_cli.proofs.HeadsMade.{made_head, spelled_by}
 use Rattle.balance_cli.proofs.stages.printed.Goals as goal
 
 pub returns : goal.returns

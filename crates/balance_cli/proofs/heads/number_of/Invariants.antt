@@ -1,7 +1,7 @@
 use Rattle.std.proofs.Common.{◌≡◌, ◌+◌, ◌≤◌, drop, map}
 use Rattle.c_tree.specs.Trees.{param}
 use Rattle.balance_cli.specs.Frames.{number_from}
-use Rattle.balance_cli.proofs.frames.number_of.Given as goal
+use Rattle.balance_cli.proofs.heads.number_of.Given as goal
 
 abbrev pub invariant-loop-p : goal.invariant-loop-p
 invariant-loop-p l = record {
