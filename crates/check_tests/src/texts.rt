@@ -63,22 +63,18 @@ const PRINTED_END: &[u8] = b"
 /// A printed text with the parameter `n`, the arrays `A` and `P`, the word `s`, the wide name `k`, the
 /// table `t`, which is item 1, and these statements before `begin` and behind it.
 pub fn printed_judged(alloc: Global, before: &str, behind: &str) -> Result<(), Refusal> {
-    let text = joined(
-        alloc,
-        &[
-            preamble(),
-            PRINTED_HEAD,
-            before.as_bytes(),
-            b"\n#pragma balance begin\n  ",
-            behind.as_bytes(),
-            PRINTED_END,
-        ],
-    )?;
+    let mut text = Vec::from_slice(alloc, preamble())?;
+    text.extend_from_slice(PRINTED_HEAD)?;
+    text.extend_from_slice(before.as_bytes())?;
+    text.extend_from_slice(b"\n#pragma balance begin\n  ")?;
+    text.extend_from_slice(behind.as_bytes())?;
+    text.extend_from_slice(PRINTED_END)?;
     judged(alloc, text.as_slice())
 }
 
 /// The preamble with this text behind it.
-pub fn with_preamble_judged(alloc: Global, text: &[u8]) -> Result<(), Refusal> {
-    let text = joined(alloc, &[preamble(), text])?;
+pub fn with_preamble_judged(alloc: Global, back: &[u8]) -> Result<(), Refusal> {
+    let mut text = Vec::from_slice(alloc, preamble())?;
+    text.extend_from_slice(back)?;
     judged(alloc, text.as_slice())
 }
