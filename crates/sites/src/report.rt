@@ -102,7 +102,7 @@ fn class_found(unit: &Unit, array: &Name) -> Class
     }
 }
 
-/// The class of an array, which is counted where there is none of this name.
+/// The class of an array. One without sites is an array of differences.
 pub fn class_of(unit: &Unit, array: &Name) -> Class
     requires { IsAcceptedSource (plain.unit unit.now) }
     ensures { result ≡ spec.class_of (plain.unit unit.now) array.now.bytes }
