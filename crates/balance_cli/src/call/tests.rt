@@ -600,3 +600,100 @@ fn refuses_many_names(rt: HostRuntime) -> Result<(), Fail> {
     );
     Ok(())
 }
+
+// A nest with two assignments.
+const MIX: &str = "#pragma balance range n 1 500\n\
+void mix(int64_t n, uint64_t A[2 * n], const uint64_t B[2 * n], uint64_t C[n]) {\n  \
+for (int64_t i = 0; i < n; i++) for (int64_t j = 0; j < n; j++) { A[2 * i] = B[i + j]; C[i] = C[i] + 1; }\n\
+}\n";
+
+// A read through an index array.
+const GATHER: &str = "#pragma balance range n 1 1000\n\
+#pragma balance range m 1 1000\n\
+void gather(int64_t n, int64_t m, const uint64_t P[n], const uint64_t X[m], uint64_t Y[n]) {\n  \
+for (int64_t i = 0; i < n; i++) Y[i] = X[P[i]];\n\
+}\n";
+
+const PRODUCT: &str = "#pragma balance range n 1 1000\n\
+void shift(int64_t n, uint64_t A[n]) {\n  \
+for (int64_t i = 0; i < n - 1; i++) A[i * n] = 1;\n\
+}\n";
+
+const DEEP: &str = "void deep(uint64_t A[2]) {\n\
+for (int64_t a = 0; a < 2; a++) for (int64_t b = 0; b < 2; b++) for (int64_t c = 0; c < 2; c++)\n\
+for (int64_t d = 0; d < 2; d++) for (int64_t e = 0; e < 2; e++) for (int64_t f = 0; f < 2; f++)\n\
+for (int64_t g = 0; g < 2; g++) A[0] = 1;\n\
+}\n";
+
+#[test]
+fn refuses_units_and_reports(rt: HostRuntime) -> Result<(), Fail> {
+    for (text, line, status, out, told) in [
+        (
+            MIX,
+            "report shift.c",
+            Status::Done,
+            "A counted reads 0 writes 1\nB counted reads 1 writes 0\nC difference reads 1 writes 1\n",
+            "",
+        ),
+        (
+            GATHER,
+            "report shift.c",
+            Status::Done,
+            "P difference reads 1 writes 0\nX inspected reads 1 writes 0\nY difference reads 0 writes 1\n",
+            "",
+        ),
+        (
+            MIX,
+            "print shift.c",
+            Status::SourceRefused,
+            "",
+            "balance: shift.c: S0 Unbuilt\n",
+        ),
+        (
+            PRODUCT,
+            "print shift.c",
+            Status::SourceRefused,
+            "",
+            "balance: shift.c: S9 NotAffine in item 2\n",
+        ),
+        (
+            PRODUCT,
+            "report shift.c",
+            Status::SourceRefused,
+            "",
+            "balance: shift.c: S9 NotAffine in item 2\n",
+        ),
+        (
+            DEEP,
+            "run shift.c d1",
+            Status::SourceRefused,
+            "",
+            "balance: shift.c: S8 TooMany depth 7 in item 7\n",
+        ),
+        (
+            PRINTED,
+            "report shift.c",
+            Status::SourceRefused,
+            "",
+            "balance: shift.c: S3 Syntax at byte 0\n",
+        ),
+        (
+            PRINTED,
+            "run shift.c d1",
+            Status::SourceRefused,
+            "",
+            "balance: shift.c: S0 Unbuilt\n",
+        ),
+    ] {
+        let source = Source {
+            name: "shift.c",
+            text,
+            length: 0,
+        };
+        let left = call(rt.alloc(), &[source], line, NONE)?;
+        assert_eq!(rt; left.status, status, "{line}");
+        assert_eq!(rt; left.out.bytes.as_slice(), out.as_bytes(), "{line}");
+        assert_eq!(rt; left.err.bytes.as_slice(), told.as_bytes(), "{line}");
+    }
+    Ok(())
+}
