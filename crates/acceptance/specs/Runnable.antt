@@ -1,8 +1,8 @@
 -- Which units the interpreter runs.
 use Rattle.std.specs.Prelude.{◌≡◌, ◌⊎◌, Bool, true, false, ◌&&◌}
 use Rattle.c_tree.specs.Plain.{PlainStmt, loop, choice, assign, table, begin, check, verdict, PlainStmts, no_stmts, more_stmts, PlainUnit}
-use Rattle.c_tree.specs.OneLoop.{IsOneLoop}
 use Rattle.acceptance.specs.Printed.{IsAcceptedPrinted}
+use Rattle.acceptance.specs.Sources.{IsAcceptedSource}
 
 -- no statement makes a table
 abbrev mutual
@@ -19,6 +19,6 @@ abbrev mutual
   all_make_no_table no_stmts = true
   all_make_no_table (more_stmts s ss) = makes_no_table s && all_make_no_table ss
 
--- a source of the one-loop form, or an accepted printed unit without tables
+-- an accepted source, or an accepted printed unit without tables
 abbrev pub IsRunnable : PlainUnit → Type 0
-IsRunnable u = IsOneLoop u ⊎ (IsAcceptedPrinted u × (all_make_no_table u.body ≡ true))
+IsRunnable u = IsAcceptedSource u ⊎ (IsAcceptedPrinted u × (all_make_no_table u.body ≡ true))

@@ -9,7 +9,6 @@ pub mod KindOf
 pub mod Kinds
 pub mod Layout
 pub mod Names
-pub mod OneLoop
 pub mod Plain
 pub mod Reserved
 pub mod Run

@@ -1,6 +1,7 @@
 //! What befalls a run, and how it ends.
 
-ghost use Rattle.std.specs.Prelude.{◌≡◌, ◌<◌, ◌↔◌, length, slice_get, IfSome, IsTrue};
+ghost use Rattle.std.specs.Prelude.{◌≡◌, ◌<◌, ◌≤◌, ◌↔◌, length, slice_get, IfSome, IsTrue};
+ghost use Rattle.c_tree.specs.Fault.{altered};
 
 use crate::frame::Cells;
 use sqlite_items::Items;
@@ -14,6 +15,16 @@ pub struct Flip {
     pub cell: u64,
     pub bit: u8,
     pub place: u64,
+}
+
+impl Flip {
+    /// The word with the bit inverted.
+    pub fn apply(&self, word: u64) -> u64
+        requires { self.now.bit ≤ 63 }
+        ensures { result ≡ altered self.now.bit word }
+    {
+        word ^ (1 << self.bit)
+    }
 }
 
 /// What a run found. Arrays are numbered from 0 in declared order.

@@ -7,7 +7,6 @@ pub mod LineSteps
 pub mod LinesLaws
 pub mod Marks
 pub mod NamePlaces
-pub mod OneLoopFrames
 pub mod Pieces
 pub mod RowLaws
 pub mod RowTexts

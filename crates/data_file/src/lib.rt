@@ -19,7 +19,7 @@ ghost use Rattle.std.specs.Prelude.{◌≡◌, IfOk};
 ghost use Rattle.data_file.specs.Texts.{data_text, output_text};
 ghost use Rattle.data_file.specs.Answers.{Answers};
 ghost use Rattle.data_file.specs.Samples.{AreSamples};
-ghost use Rattle.data_file.specs.Frames.{FitsAsFrame, FitsAsMeant, HasFrame};
+ghost use Rattle.data_file.specs.Frames.{FitsAsFrame, FitsAsMeant};
 ghost use Rattle.data_file.specs.Laws.{HasOneAnswer, HasSomeAnswer, IsReadBack};
 ghost use Rattle.data_file.specs.Conditions.{HasRows, IsEndOf, IsFrame};
 
@@ -100,11 +100,6 @@ pub fn fits_as_frame()
 /// Inputs that a text means by the frame of a unit, and that fit it, fit the unit.
 pub fn fits_as_meant()
     ensures { FitsAsMeant }
-{}
-
-/// Each unit of the one-loop form has a frame.
-pub fn one_loop_has_frame()
-    ensures { HasFrame }
 {}
 
 /// There are frames and inputs that meet all that is asked of them.
