@@ -1,21 +1,15 @@
 -- The run of a source makes its turns, under every fault: its loops and tests don't depend on what memory holds.
-use Rattle.std.proofs.Common.{◌≡◌, ℕ, suc, ◌+◌, ◌*◌, ◌^◌, nat_lt, Bool, true, false, not, cond, if◌then◌else◌, List, [], ◌∷◌, sum_by, refl, sym, ap, ◌∙◌, subst, arith, ℤ, pos, Option, Some, None}
-use Rattle.std.specs.Prelude.{bytes_eq, slice_index, slice_set}
-use Rattle.std.specs.List.{list_any}
+use Rattle.std.proofs.Common.{◌≡◌, ℕ, suc, ◌+◌, Bool, true, false, not, cond, List, [], ◌∷◌, sum_by, refl, sym, ap, ◌∙◌, subst, arith, ℤ, None}
 use Rattle.std.proofs.lemmas.List.Sums.{sum_by-cons}
-use Rattle.c_tree.specs.Plain.{Word, PlainExpr, lit, var, cell, un, bin, cast, test, umin, umax, least, greatest, widen, big, PlainExprs, no_exprs, more_exprs, PlainStmt, loop, choice, assign, table, begin, check, verdict, PlainStmts, no_stmts, more_stmts}
-use Rattle.c_tree.specs.Values.{Vars, signed, loop_values, kind, as_word, as_wide, as_bit, word_holds, word_un, word_bin, wide_bin}
-use Rattle.c_tree.specs.Kinds.{is_signed, is_word}
-use Rattle.c_tree.specs.Arrays.{Array, Memory, stored, array_named, is_within, vars_of}
+use Rattle.c_tree.specs.Plain.{Word, PlainStmt, loop, choice, assign, table, begin, check, verdict, PlainStmts, no_stmts, more_stmts}
+use Rattle.c_tree.specs.Values.{Vars, signed, loop_values}
+use Rattle.c_tree.specs.Arrays.{Array, vars_of}
 use Rattle.c_tree.specs.Inputs.{arrays_for, memory_for}
 use Rattle.run_laws.specs.Laws.{GoesThrough, SourcesFollow}
 use Rattle.instrumentation_laws.specs.RegularUnits.{number_for}
-use Rattle.c_tree.specs.Fault.{Upset}
-use Rattle.c_tree.specs.Run.{Event, State, Outcome, goes_on, ends, outside, Run, and_then, ◌>>=◌, give, put, Scope, struck, logged, loads, stores, within, by_array, word, coordinates, first_word, wide, updated, set_word, set_wide, set_entry, assigned, all_hold, turn, over, exec, exec_all, is_printed, started, result}
-use Rattle.c_tree.specs.Run as run
-use Rattle.c_tree.specs.declared.expr.BinOp.{BinOp}
+use Rattle.c_tree.specs.Run.{State, Outcome, goes_on, ends, Run, and_then, Scope, assigned, turn, over, exec, exec_all, is_printed, started, result}
 use Rattle.instrumentation_laws.specs.AccessList.{tests_hold}
-use Rattle.instrumentation_laws.proofs.Steps.{struck_is, logged_is, all_hold_is}
+use Rattle.instrumentation_laws.proofs.Steps.{all_hold_is}
 use Rattle.pass_laws.specs.Countable.{IsCountable, AreCountable}
 use Rattle.pass_laws.specs.Going.{GoesTo, WhereGoing, Turned}
 use Rattle.pass_laws.specs.Laws.{SourcesTurn, UnitsTurn}

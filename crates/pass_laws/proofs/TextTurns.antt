@@ -3,7 +3,7 @@ use Rattle.std.proofs.Common.{◌≡◌, ℕ, zero, suc, ◌+◌, ◌*◌, ◌<�
 use Rattle.std.proofs.lemmas.List.{get_or_append_left, get_or-append-add}
 use Rattle.std.proofs.lemmas.List.Sums.{sum_by-cons}
 use Rattle.std.specs.Prelude.{slice_index_or}
-use Rattle.c_tree.specs.Plain.{Word, PlainExpr, lit, var, cell, un, bin, cast, test, umin, umax, least, greatest, widen, big, PlainExprs, no_exprs, more_exprs, PlainTest, PlainStmt, loop, choice, assign, table, begin, check, verdict, PlainStmts, no_stmts, more_stmts, PlainParam, int_param, array_param}
+use Rattle.c_tree.specs.Plain.{Word, PlainExpr, lit, var, cell, un, bin, cast, test, umin, umax, least, greatest, widen, big, PlainExprs, no_exprs, more_exprs, PlainStmt, loop, choice, assign, table, begin, check, verdict, PlainStmts, no_stmts, more_stmts, PlainParam, int_param, array_param}
 use Rattle.c_tree.specs.Trees.{stmts_of}
 use Rattle.c_tree.specs.Values.{Vars, signed, loop_values, from_on}
 use Rattle.c_tree.specs.Arrays.{Array, size_of, cell_count, cell_walk, extents_of, arrays_of}
@@ -13,7 +13,7 @@ use Rattle.c_tree.specs.Run.{State, Outcome, goes_on, ends, Run, and_then, Scope
 use Rattle.c_tree.specs.declared.expr.BinOp.{BinOp}
 use Rattle.c_tree.specs.declared.expr.Rel.TheVariants.{Lt}
 use Rattle.instrumentation.specs.Names.{result, register, coordinate}
-use Rattle.instrumentation.specs.Body.{reads_in, full, loads_text, pure, add_text, store_text, assigned_text, instrument, instrument_all}
+use Rattle.instrumentation.specs.Body.{reads_in, full, loads_text, pure, add_text, assigned_text, instrument, instrument_all}
 use Rattle.instrumentation.specs.Passes.{Target, pass_text, write_piece, write_pieces, write_pieces_all, piece_at, cell_piece, coordinates_from}
 use Rattle.instrumentation.specs.Prologue.{add_cell, cell_loops, cell_text, array_text, prologue_text}
 use Rattle.instrumentation.specs.Guarded.{arrays_with_extents}
@@ -34,7 +34,7 @@ use Rattle.pass_laws.proofs.Sites.{AreNested, pieces_many, pieces_all_many}
 use Rattle.pass_laws.proofs.SourceTurns.{going_then, spun_steady, spun_on, over_turns, body_turn, chosen_turns}
 use Rattle.pass_laws.proofs.Steady.{calm_assigned}
 use Rattle.pass_laws.proofs.Steps.{affine_tests}
-use Rattle.pass_laws.proofs.Turned.{Spun, spun_none, spun_then, pass_turns}
+use Rattle.pass_laws.proofs.Turned.{Spun, spun_none, pass_turns}
 
 -- ---- sums
 

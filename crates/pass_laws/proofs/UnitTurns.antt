@@ -1,16 +1,16 @@
 -- The turns of the run of a whole instrumented unit, for sound inputs and under every fault.
-use Rattle.std.proofs.Common.{◌≡◌, ℕ, zero, suc, ◌+◌, ◌*◌, ◌<◌, ◌&&◌, Bool, true, false, cond, List, [], ◌∷◌, ◌++◌, length, sum_by, refl, sym, ap, ◌∙◌, subst, arith, ℤ, Option, Some, None, inl, inr, eq-eqb, nat_eq}
+use Rattle.std.proofs.Common.{◌≡◌, ℕ, zero, suc, ◌+◌, ◌*◌, ◌<◌, ◌&&◌, Bool, true, false, cond, List, [], ◌∷◌, length, sum_by, refl, sym, ap, ◌∙◌, subst, arith, Option, Some, None, eq-eqb, nat_eq}
 use Rattle.std.specs.Prelude.{slice_get}
-use Rattle.std.proofs.lemmas.Bool.{cases_eq, ne_eqb}
-use Rattle.c_tree.specs.Plain.{Word, PlainExprs, PlainStmt, begin, PlainUnit}
+use Rattle.std.proofs.lemmas.Bool.{ne_eqb}
+use Rattle.c_tree.specs.Plain.{Word, PlainStmt, begin, PlainUnit}
 use Rattle.c_tree.specs.Trees.{stmts_of}
 use Rattle.c_tree.specs.Values.{Vars}
-use Rattle.c_tree.specs.Arrays.{Array, Memory, extents_at, vars_of, cell_count, cell_walk}
+use Rattle.c_tree.specs.Arrays.{Array, extents_at, vars_of, cell_count, cell_walk}
 use Rattle.c_tree.specs.Accesses.{Access, Clean, at, sum_below, writes_of}
-use Rattle.c_tree.specs.Fault.{Fault, Upset, upset_of}
+use Rattle.c_tree.specs.Fault.{Upset, upset_of}
 use Rattle.c_tree.specs.Instances.{Tagged, untagged, sites_all, accesses}
 use Rattle.c_tree.specs.Inputs.{PlainInputs, arrays_for, memory_for, IsSound}
-use Rattle.c_tree.specs.Run.{State, Outcome, goes_on, ends, and_then, Scope, exec_all, Ended, result, started, turns, run_from, run}
+use Rattle.c_tree.specs.Run.{State, Outcome, goes_on, ends, Scope, exec_all, result, started, run_from}
 use Rattle.balance_laws.proofs.Sums.{sum_below_same, sum_below_plus, sum_below_one, sum_below_zero}
 use Rattle.run_laws.proofs.Within.{array_stands}
 use Rattle.instrumentation.specs.Body.{instrument_all}
@@ -21,17 +21,16 @@ use Rattle.instrumentation_laws.specs.AccessList.{tagged_all}
 use Rattle.instrumentation_laws.specs.RegularUnits.{number_for, wides_for}
 use Rattle.instrumentation_laws.specs.Setting.{text, scope_of}
 use Rattle.instrumentation_laws.specs.TextLaws as text_laws
-use Rattle.instrumentation_laws.specs.UnitLaws.{IsCounted, IsGoing}
+use Rattle.instrumentation_laws.specs.UnitLaws.{IsCounted}
 use Rattle.instrumentation_laws.proofs.PositionSums.{front}
 use Rattle.instrumentation_laws.proofs.Steps.{exec_join}
 use Rattle.instrumentation_laws.proofs.Units.{text_run, judging, text_is, clean_is, accesses_are, counted_goes, end}
 use Rattle.instrumentation_laws.proofs.Verdicts.{end_is}
-use Rattle.pass_laws.specs.Countable.{AreCountable}
 use Rattle.pass_laws.specs.Going.{WhereGoing}
 use Rattle.pass_laws.specs.TextTurns as told
 use Rattle.pass_laws.specs.TextTurns.{MakesTurns}
 use Rattle.pass_laws.specs.Turns.{turns_all}
-use Rattle.pass_laws.specs.Laws.{HasForms, IsReady, UnitsMakeTurns}
+use Rattle.pass_laws.specs.Laws.{IsReady, UnitsMakeTurns}
 use Rattle.pass_laws.proofs.Pieces.{has_counters}
 use Rattle.pass_laws.proofs.Renamed.{names}
 use Rattle.pass_laws.proofs.Sites.{Facts, names_at_all, facts_all}
