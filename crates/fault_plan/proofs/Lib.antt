@@ -1,1 +1,6 @@
+pub mod ArrayNames
+pub mod Decided
+pub mod FlipLines
+pub mod FlipTexts
+pub mod SinglePieces
 pub mod VisibleLines

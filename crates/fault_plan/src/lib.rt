@@ -10,7 +10,6 @@ mod refusal;
 ghost use Rattle.std.specs.Prelude.{◌≡◌};
 ghost use Rattle.data_file.specs.Checks as checks;
 ghost use Rattle.data_file.specs.Checks.{Fits};
-ghost use Rattle.data_file.specs.Conditions.{HasRows};
 ghost use Rattle.fault_plan.specs.Answers.{Answers};
 ghost use Rattle.fault_plan.specs.Laws.{HasOneAnswer, HasSomeAnswer, IsReadBack};
 ghost use Rattle.fault_plan.specs.Reading as spec;
@@ -47,8 +46,7 @@ fn given_cells(i: &Inputs, array: usize) -> u64
 
 /// The flip that the text of a flip file means. It takes no memory.
 pub fn read_flip(f: &Frame, i: &Inputs, text: &[u8]) -> Result<Flip, FlipRefusal>
-    requires rows { HasRows f.now i.now }
-    requires fits { Fits f.now i.now }
+    requires { Fits f.now i.now }
     ensures { Answers f.now i.now text.now result }
 {
     let Some(flip) = said(text) else {
