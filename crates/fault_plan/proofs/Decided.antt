@@ -1,15 +1,14 @@
 -- Which answer a text gets.
-use Rattle.std.proofs.Common.{◌≡◌, ℕ, ◌^◌, ◌<◌, ◌≤◌, Bool, true, false, not, ◌==◌, nat_lt, List, length, Option, Some, None, Result, Ok, Err, slice_get, refl, sym, ap, ◌∙◌, subst, arith, ◌⊎◌, inl, inr}
+use Rattle.std.proofs.Common.{◌≡◌, ℕ, ◌<◌, ◌≤◌, Bool, true, false, not, ◌==◌, nat_lt, List, length, Option, Some, None, Result, Ok, Err, refl, sym, ap, ◌∙◌, subst, arith, ◌⊎◌, inl, inr}
 use Rattle.std.proofs.lemmas.Bool.{ltb-true, lt-ltb, ltb-false}
 use Rattle.std.proofs.lemmas.Bool.Decides.{nat_tests}
 use Rattle.std.proofs.lemmas.Option.{slice_get_within}
 use Rattle.c_tree.specs.declared.frame.Frame.{Frame}
-use Rattle.c_tree.specs.declared.frame.ArrayInfo.{ArrayInfo}
 use Rattle.c_tree.specs.declared.frame.Inputs.{Inputs}
 use Rattle.c_tree.specs.declared.run.Flip.{Flip}
 use Rattle.data_file.specs.Checks.{wanted_cells, given_cells, Fits}
 use Rattle.data_file.specs.Conditions.{HasOwnNames}
-use Rattle.fault_plan.specs.Answers.{FitsInputs, MeansFitting, SaysNone, NamesNone, LeavesCells, LeavesBits, Answers, IsAnswered}
+use Rattle.fault_plan.specs.Answers.{MeansFitting, SaysNone, NamesNone, LeavesCells, LeavesBits, Answers, IsAnswered}
 use Rattle.fault_plan.specs.Meaning.{PlainFlip, Says, named, MeansFlip}
 use Rattle.fault_plan.specs.Reading.{said, array_in}
 use Rattle.fault_plan.specs.declared.refusal.FlipRefusal.{FlipRefusal}

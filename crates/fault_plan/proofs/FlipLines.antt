@@ -1,11 +1,10 @@
 -- The line of a flip: it is read as the flip, and nothing else is read as one.
-use Rattle.std.proofs.Common.{◌≡◌, ℕ, Bool, true, false, not, List, [], ◌∷◌, ◌++◌, codes, Option, Some, None, option_and_then, refl, sym, ap, ◌∙◌, subst}
+use Rattle.std.proofs.Common.{◌≡◌, ℕ, true, List, ◌∷◌, ◌++◌, codes, Some, refl, ap, ◌∙◌, subst}
 use Rattle.std.specs.Fmt.{decimal}
 use Rattle.data_file.specs.Reading.{strip}
 use Rattle.data_file.proofs.Fronts.{strip_is, strip-front}
 use Rattle.fault_plan.specs.Meaning.{is_visible, PlainFlip, IsFlipLine}
 use Rattle.fault_plan.specs.Reading.{name_front, number_front, place_of, line_of}
-use Rattle.fault_plan.specs.Texts.{flip_line}
 use Rattle.fault_plan.proofs.SinglePieces.{on_some, name_front_is, name_front-name, number_front_is, number_front-number, place_of_is, place_of-place}
 
 abbrev made : List ℕ → ℕ → ℕ → ℕ → PlainFlip

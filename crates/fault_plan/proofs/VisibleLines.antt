@@ -1,5 +1,5 @@
 -- The lines that aren't blank, a line at a time.
-use Rattle.std.proofs.Common.{◌≡◌, ℕ, ◌<◌, Bool, true, false, cond, nat_eq, List, [], ◌∷◌, length, filter, sym, ap, ◌∙◌, subst}
+use Rattle.std.proofs.Common.{◌≡◌, ℕ, ◌<◌, true, false, cond, nat_eq, List, [], ◌∷◌, length, filter, sym, ap, ◌∙◌, subst}
 use Rattle.data_file.specs.Reading.{first_line, after_line}
 use Rattle.data_file.proofs.LineSteps.{lines_step, after_line_shorter}
 use Rattle.data_file.proofs.Turns.{long_is, empty_is}

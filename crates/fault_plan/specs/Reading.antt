@@ -1,5 +1,5 @@
 -- Reading a flip file: each function gives what the code gives, or None where the bytes aren't of the form.
-use Rattle.std.specs.Prelude.{ℕ, Bool, not, ◌&&◌, if◌then◌else◌, nat_eq, List, [], ◌∷◌, length, codes, slice_get, position, bytes_eq, Option, Some, None, option_and_then}
+use Rattle.std.specs.Prelude.{ℕ, Bool, not, ◌&&◌, if◌then◌else◌, nat_eq, List, [], ◌∷◌, length, codes, position, bytes_eq, Option, Some, None, option_and_then}
 use Rattle.std.specs.List.{list_all}
 use Rattle.c_tree.specs.Plain.{Word}
 use Rattle.c_tree.specs.declared.frame.ArrayInfo.{ArrayInfo}

@@ -1,5 +1,5 @@
 -- Values of the code without where they lie in memory, and what a function that reads a part of a text ensures.
-use Rattle.std.specs.Prelude.{◌≡◌, List, Option, Some, None}
+use Rattle.std.specs.Prelude.{◌≡◌, Option, Some, None}
 use Rattle.fault_plan.specs.Meaning.{PlainFlip}
 use Rattle.fault_plan.specs.declared.line.NamedFlip.{NamedFlip}
 

@@ -13,9 +13,12 @@ ghost use Rattle.data_file.specs.Checks.{Fits};
 ghost use Rattle.fault_plan.specs.Answers.{Answers};
 ghost use Rattle.fault_plan.specs.Laws.{HasOneAnswer, HasSomeAnswer, IsReadBack};
 ghost use Rattle.fault_plan.specs.Reading as spec;
+ghost use Rattle.fault_plan.specs.Samples.{IsSample};
 ghost use Rattle.fault_plan.specs.Seen.{Reads, plain};
+ghost use Rattle.fault_plan.specs.Units.{FlipsFitUnits};
 
 use c_tree::{ArrayInfo, Flip, Frame, Inputs};
+use data_file::fits_as_frame;
 use line::{NamedFlip, line_of};
 use lines::only_line;
 pub use refusal::FlipRefusal;
@@ -85,4 +88,16 @@ pub fn some_flip_answer()
 /// The text of a flip that fits is read back.
 pub fn flip_is_read_back()
     ensures { IsReadBack }
+{}
+
+/// A flip fits a unit exactly where it fits by the unit's frame.
+pub fn flips_fit_units()
+    ensures { FlipsFitUnits }
+{
+    fits_as_frame();
+}
+
+/// There is a flip that meets all that is asked of one.
+pub fn sample_meets_conditions()
+    ensures { IsSample }
 {}

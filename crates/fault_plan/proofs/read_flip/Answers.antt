@@ -1,7 +1,7 @@
 use Rattle.std.proofs.Common.{◌≡◌, ◌∙◌, ◌≤◌, ◌<◌, ℕ, List, Some, None, Option, sym, ap, subst, arith}
 use Rattle.c_tree.specs.declared.frame.ArrayInfo.{ArrayInfo}
 use Rattle.c_tree.specs.Plain.{Word}
-use Rattle.data_file.specs.Checks.{wanted_cells, given_cells}
+use Rattle.data_file.specs.Checks.{wanted_cells}
 use Rattle.fault_plan.specs.Answers.{MeansFitting}
 use Rattle.fault_plan.specs.Reading.{array_in}
 use Rattle.fault_plan.specs.Seen.{plain}
