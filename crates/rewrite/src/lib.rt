@@ -1,14 +1,2 @@
-//! Builds the instrumented unit of a source.
+//! Builds the instrumented unit of a kernel.
 #![tactic(auto)]
-
-mod body;
-mod counts;
-mod guarded;
-mod loops;
-mod names;
-mod passes;
-mod pieces;
-mod prologue;
-mod statements;
-
-pub use guarded::instrument_one;

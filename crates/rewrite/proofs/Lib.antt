@@ -1,6 +1,0 @@
-pub mod Lists
-pub mod PieceCounts
-pub mod RegisterWords
-pub mod SameCell
-pub mod Small
-pub mod Made

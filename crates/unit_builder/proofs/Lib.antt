@@ -1,0 +1,6 @@
+pub mod Lists
+pub mod PieceCounts
+pub mod RegisterWords
+pub mod SameCell
+pub mod Small
+pub mod Unrefused
