@@ -16,6 +16,8 @@ pub mod Instance
 pub mod Writes
 pub mod Cells
 pub mod Pieces
-pub mod OneLoop
 pub mod Sample
+pub mod Steady
 pub mod SourceTurns
+pub mod Tables
+pub mod Ready

@@ -8,7 +8,7 @@ ghost use Rattle.c_tree.specs.Inputs.{AreInRange};
 ghost use Rattle.guard_laws.specs.Guards.{Guards};
 ghost use Rattle.instrumentation.specs.Guarded.{guarded};
 ghost use Rattle.source_laws.specs.Exact.{IsExactFor};
-ghost use Rattle.source_laws.specs.Laws.{AcceptedAreExact, AcceptedAreGuarded, AcceptedAreReady, AcceptedAreRunnable, AcceptedAreSources, AcceptedArePrinted, AcceptedFollow, AcceptedHaveForms, AcceptedRunAlike, OneLoopIsAccepted, IsRegularSource};
+ghost use Rattle.source_laws.specs.Laws.{AcceptedAreExact, AcceptedAreGuarded, AcceptedAreReady, AcceptedAreRunnable, AcceptedAreSources, AcceptedArePrinted, AcceptedFollow, AcceptedHaveForms, AcceptedHaveTrees, AcceptedRunAlike, AcceptedStoreNothing, IsRegularSource};
 
 /// Where the parameters lie in their ranges no signed value of an accepted source wraps, index cells or not: its extents and bounds, the sides of its tests, its subscripts and the signed operands of its casts are what they are as whole numbers, at all values that the loops around them have.
 pub fn accepted_sources_are_exact()
@@ -29,25 +29,18 @@ pub fn accepted_sources_are_ready()
     ensures { AcceptedAreReady }
 {
     accepted_sources_follow();
-    pass_laws::passes_go_on();
-    pass_laws::passes_count();
+    pass_laws::forms_are_ready();
 }
 
-/// The instrumented unit of such a source is accepted as a printed unit, and is one that the interpreter runs.
+/// The instrumented unit of such a source is accepted as a printed unit, and is one that the interpreter runs. It is a tree of the grammar of printed texts, and stores into no array before the source's statements begin.
 pub fn accepted_sources_are_printed()
     ensures printed { AcceptedArePrinted }
     ensures runs { AcceptedAreRunnable }
+    ensures tree { AcceptedHaveTrees }
+    ensures stores { AcceptedStoreNothing }
 {
     accepted_laws::accepted_source_is_regular();
     accepted_laws::regular_is_accepted();
-}
-
-/// Where the source makes fewer than 2^63 accesses, it makes the same under every fault, with the same values, and ends as the source does, within its arrays or not.
-pub fn accepted_sources_run_alike()
-    ensures { AcceptedRunAlike }
-{
-    instrumentation_laws::every_unit_follows();
-    pass_laws::passes_count();
 }
 
 /// It guards the source: without a fault it ends balanced with the source's output, and it reports a fault exactly where the cell's next access is a read.
@@ -55,14 +48,14 @@ pub fn accepted_sources_are_guarded()
     ensures { AcceptedAreGuarded }
 {
     guard_laws::ready_sources_are_guarded();
-    accepted_sources_are_ready();
+    accepted_sources_follow();
 }
 
-/// Each unit of the one-loop form is accepted, and has no irregular subscript.
-pub fn one_loop_is_accepted()
-    ensures { OneLoopIsAccepted }
+/// For all inputs that fit and under every fault the unit makes the source's accesses, with the same values, and ends as the source does, within its arrays or not.
+pub fn accepted_sources_run_alike()
+    ensures { AcceptedRunAlike }
 {
-    accepted_laws::one_loop_is_regular();
+    accepted_sources_are_guarded();
 }
 
 /// A nest of two loops over three arrays is such a source, and is guarded.
