@@ -3,4 +3,5 @@ pub mod PieceCounts
 pub mod RegisterWords
 pub mod SameCell
 pub mod Small
+pub mod PieceTargets
 pub mod Unrefused

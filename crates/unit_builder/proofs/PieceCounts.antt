@@ -12,7 +12,7 @@ use Rattle.instrumentation.specs.Passes.{piece_at, write_pieces, write_pieces_al
 use Rattle.unit_builder.specs.Built.{pieces_in}
 
 mutual
-  length-write_pieces : (number : Word → ℕ) (whole : PlainStmts) (k : ℕ) (s : PlainStmt) → length (write_pieces number whole k s) ≡ sites s
+  pub length-write_pieces : (number : Word → ℕ) (whole : PlainStmts) (k : ℕ) (s : PlainStmt) → length (write_pieces number whole k s) ≡ sites s
   length-write_pieces number whole k (loop x lo rel hi body) = length-write_pieces_all number whole k body
   length-write_pieces number whole k (choice ts first other) =
       length-append (write_pieces_all number whole k first) (write_pieces_all number whole (k + sites_all first) other)

@@ -16,4 +16,5 @@ mod targets;
 
 pub use guarded::instrumented_unit;
 pub use laws::accepted_sources_are_small;
+pub use pieces::{cell_pass, write_pass};
 pub use prologue::add_given_prologue;

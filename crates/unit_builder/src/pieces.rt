@@ -2,16 +2,19 @@
 //! for each assignment of the source and one for the initial cells of each array.
 
 ghost use Rattle.std.specs.Prelude.{◌≡◌, ◌+◌, ◌++◌, ◌<◌, ◌^◌, IfOk, OnOk, map};
-ghost use Rattle.c_tree.specs.Trees.{expr, exprs, stmt, stmts};
+ghost use Rattle.c_tree.specs.Trees.{expr, exprs, param, stmt, stmts};
 ghost use Rattle.c_tree.specs.Instances.{sites, sites_all};
+ghost use Rattle.instrumentation.specs.Guarded.{arrays_with_extents};
 ghost use Rattle.instrumentation.specs.Passes as passes;
 ghost use Rattle.instrumentation.specs.Passes.{coordinates_from};
-ghost use Rattle.unit_builder.specs.Numbered.{numbers};
+ghost use Rattle.unit_builder.specs.Numbered.{numbers, passes_of};
+ghost use Rattle.unit_builder.specs.Parts.{array_piece};
 ghost use Rattle.unit_builder.specs.Small.{IsSmall};
 
 use crate::counts::{count_sites, count_sites_of_all};
 use crate::names::{coordinate, number_of};
 use crate::passes::Pass;
+use crate::targets::target_among;
 use c_tree::{Expr, Exprs, OutOfMemory, Param, Stmt, Stmts};
 use sqlite_items::Items;
 use std::alloc::Global;
@@ -142,4 +145,62 @@ pub fn write_pieces(
     let mut pieces = Items::new(alloc);
     add_all_pieces(alloc, params, whole, 0, whole, &mut pieces)?;
     Ok(pieces)
+}
+
+/// The pass of the initial cells of the array of this number, by the coordinates of the prologue.
+pub fn cell_pass(
+    alloc: Global,
+    params: &[Param],
+    whole: &Stmts,
+    array: usize,
+) -> Result<Stmts, OutOfMemory>
+    requires { IsSmall (stmts whole.now) }
+    ensures { IfOk result (λ made. map stmt made ≡ array_piece (passes_of params.now whole.now)
+        array 0 (arrays_with_extents (map param params.now))) }
+{
+    let mut number = 0;
+    for p in params {
+        if let Param::Array { extents, .. } = p {
+            if number == array {
+                return numbered_pass(alloc, params, whole, number, extents.as_slice());
+            }
+            number += 1;
+        }
+    }
+    Ok(Items::new(alloc))
+}
+
+/// The pass of the initial cells of an array.
+#[tactic(auto, unfolding(crate::specs::Numbered::passes_of))]
+fn numbered_pass(
+    alloc: Global,
+    params: &[Param],
+    whole: &Stmts,
+    array: usize,
+    extents: &[Expr],
+) -> Result<Stmts, OutOfMemory>
+    requires { IsSmall (stmts whole.now) }
+    ensures { IfOk result (λ made. map stmt made
+        ≡ passes_of params.now whole.now array (exprs extents.now)) }
+{
+    cell_piece(alloc, params, whole, array as u64, extents)
+}
+
+/// The pass of the assignment of this number, none where it stores into no array.
+#[tactic(auto, using(crate::proofs::PieceTargets::no_target, crate::proofs::PieceTargets::some_target), unfolding(crate::specs::Small::IsSmall))]
+pub fn write_pass(
+    alloc: Global,
+    params: &[Param],
+    whole: &Stmts,
+    number: usize,
+) -> Result<Stmts, OutOfMemory>
+    requires { IsSmall (stmts whole.now) }
+    ensures { IfOk result (λ made. map stmt made ≡ passes.piece_at
+        (passes.write_pieces_all (numbers params.now) (stmts whole.now) 0 (stmts whole.now))
+        number) }
+{
+    match target_among(whole, number) {
+        Some(target) => write_piece(alloc, params, whole, number, target),
+        None => Ok(Items::new(alloc)),
+    }
 }
