@@ -11,7 +11,6 @@ ghost use Rattle.accepted_laws.specs.Regular.{IsRegular};
 ghost use Rattle.accepted_laws.specs.Sample.{source};
 ghost use Rattle.accepted_laws.specs.Tall.{tall};
 ghost use Rattle.c_tree.specs.Grammar.Statements.{stmts_height};
-ghost use Rattle.c_tree.specs.OneLoop.{IsOneLoop};
 ghost use Rattle.c_tree.specs.Plain.{PlainUnit};
 ghost use Rattle.instrumentation.specs.Guarded.{guarded};
 ghost use Rattle.std.specs.Prelude.{◌≡◌, true, false, None};
@@ -39,18 +38,6 @@ pub fn a_nest_is_accepted()
     ensures regular { IsRegular source }
     ensures accepted { IsAcceptedPrinted (guarded source) }
     ensures printed { IsPrintedTree (guarded source) }
-{}
-
-/// A source of the one-loop form is accepted, has no irregular subscript, and so is regular; its instrumented unit is accepted, stores into no array before `begin`, and is one that the interpreter runs.
-pub fn one_loop_is_regular()
-    ensures source { (u : PlainUnit) → IsOneLoop u → IsAcceptedSource u }
-    ensures cells { (u : PlainUnit) → IsOneLoop u → all_are_regular u.body ≡ true }
-    ensures regular { (u : PlainUnit) → IsOneLoop u → IsRegular u }
-    ensures tree { (u : PlainUnit) → IsOneLoop u → IsSourceTree u }
-    ensures accepted { (u : PlainUnit) → IsOneLoop u → IsAcceptedPrinted (guarded u) }
-    ensures stores { (u : PlainUnit) → IsOneLoop u → StoresNothingBefore (guarded u) }
-    ensures runs { (u : PlainUnit) → IsOneLoop u → IsRunnable (guarded u) }
-    ensures printed { (u : PlainUnit) → IsOneLoop u → IsPrintedTree (guarded u) }
 {}
 
 /// The bounds 129 and 65 are met: by a source that no refusal names, with a loop and 62 choices around an assignment whose value is 64 high.

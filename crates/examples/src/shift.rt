@@ -5,7 +5,6 @@ ghost use Rattle.c_tree.specs.Accesses.{uses};
 ghost use Rattle.c_tree.specs.Accesses.Definition.{Initial, Written};
 ghost use Rattle.c_tree.specs.Instances.{accesses};
 ghost use Rattle.c_tree.specs.Inputs.{IsSound, memory_for};
-ghost use Rattle.c_tree.specs.OneLoop.{IsOneLoop};
 ghost use Rattle.c_tree.specs.Run.{run, plain, balanced, fault, outside};
 ghost use Rattle.run_laws.specs.Logs.{accesses_in};
 ghost use Rattle.examples.specs.Forms.{reads, writes, fault_at};
@@ -30,10 +29,9 @@ pub fn shift_uses()
     ensures written_5 { uses_of (Written 5) ≡ 0 }
 {}
 
-/// It is of the one-loop form, and these inputs are sound: the premises of the laws on that form are met.
-pub fn shift_is_one_loop()
-    ensures form { IsOneLoop shift }
-    ensures sound { IsSound shift four }
+/// These inputs are sound.
+pub fn shift_is_sound()
+    ensures { IsSound shift four }
 {}
 
 /// With the bound n the last turn reads A[3] and ends before the write of A[4].

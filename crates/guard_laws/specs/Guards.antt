@@ -8,7 +8,6 @@ use Rattle.c_tree.specs.Accesses.{Access}
 use Rattle.c_tree.specs.Fault.{Fault, Upset, upset_of, Exposed}
 use Rattle.c_tree.specs.Instances.{accesses, source_output}
 use Rattle.c_tree.specs.Inputs.{PlainInputs, arrays_for, memory_for, IsSound}
-use Rattle.c_tree.specs.OneLoop.{IsOneLoop}
 use Rattle.c_tree.specs.Run.{State, exec_all, balanced, fault as faulty, Reports, run, turns}
 use Rattle.run_laws.specs.Logs.{values_in}
 use Rattle.instrumentation.specs.Passes.{Target, pass_text, cell_piece, write_pieces_all, piece_at}
@@ -95,7 +94,3 @@ pub record GuardsInDetail (source unit : PlainUnit) : Type 0 where
 -- Each source that is ready, whatever sound inputs it has, is guarded by its instrumented unit.
 abbrev pub ReadyAreGuarded : Type 0
 ReadyAreGuarded = (u : PlainUnit) → ((i : PlainInputs) → IsSound u i → IsReady u i) → GuardsInDetail u (guarded u)
-
--- So is each unit of the one-loop form.
-abbrev pub OneLoopIsGuarded : Type 0
-OneLoopIsGuarded = (u : PlainUnit) → IsOneLoop u → GuardsInDetail u (guarded u)

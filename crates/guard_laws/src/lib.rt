@@ -1,7 +1,7 @@
 //! What an instrumented unit is worth: it ends balanced with its source's output, and reports a fault exactly where the cell's next access is a read.
 #![tactic(auto)]
 
-ghost use Rattle.guard_laws.specs.Guards.{OneLoopIsGuarded, ReadyAreGuarded};
+ghost use Rattle.guard_laws.specs.Guards.{ReadyAreGuarded};
 
 /// Each source that is ready for its instrumented unit, whatever sound inputs it has, is guarded by it.
 pub fn ready_sources_are_guarded()
@@ -11,12 +11,4 @@ pub fn ready_sources_are_guarded()
     instrumentation_laws::every_unit_balances();
     instrumentation_laws::every_unit_tells();
     pass_laws::passes_go_on();
-}
-
-/// Each unit of the one-loop form is guarded by its instrumented unit.
-pub fn one_loop_guards()
-    ensures { OneLoopIsGuarded }
-{
-    ready_sources_are_guarded();
-    pass_laws::one_loop_passes();
 }

@@ -16,6 +16,5 @@ pub mod Instance
 pub mod Writes
 pub mod Cells
 pub mod Pieces
-pub mod OneLoop
 pub mod Sample
 pub mod SourceTurns

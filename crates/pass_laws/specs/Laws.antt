@@ -6,8 +6,7 @@ use Rattle.c_tree.specs.Values.{Vars}
 use Rattle.c_tree.specs.Arrays.{Array, Memory, extents_at, vars_of}
 use Rattle.c_tree.specs.Fault.{Upset}
 use Rattle.c_tree.specs.Instances.{Tagged, core_of, literal_of}
-use Rattle.c_tree.specs.Inputs.{PlainInputs, arrays_for, memory_for, IsClean, IsSound}
-use Rattle.c_tree.specs.OneLoop.{IsOneLoop}
+use Rattle.c_tree.specs.Inputs.{PlainInputs, arrays_for, memory_for, IsClean}
 use Rattle.c_tree.specs.Run.{State, Scope, exec_all, turns}
 use Rattle.run_laws.specs.Sources as exactly
 use Rattle.run_laws.specs.Laws.{IsSourceFor}
@@ -103,8 +102,6 @@ abbrev pub UnitsAreCounted : Type 0
 UnitsAreCounted = (u : PlainUnit) (ns : List ℤ) (fault : Option Upset) → IsRegular u ns → IsCountableUnit u ns →
     IsCounted u (guarded u) ns fault (number_for u) (arrays_with_extents u.params) (cell_piece (number_for u) u.body) (piece_at (write_pieces_all (number_for u) u.body 0 u.body))
 
--- ---- the one-loop form
-
 -- whatever the laws of instrumented units ask of a source, of its inputs and of its passes
 pub record IsReady (u : PlainUnit) (i : PlainInputs) : Type 0 where
   pub source : IsSourceFor u i.ints
@@ -116,7 +113,3 @@ pub record IsReady (u : PlainUnit) (i : PlainInputs) : Type 0 where
       IsCounted u (guarded u) i.ints fault (number_for u) (arrays_with_extents u.params) (cell_piece (number_for u) u.body) (piece_at (write_pieces_all (number_for u) u.body 0 u.body))
   pub literals : (x : Word) → literal_of u.words x < 2 ^ 64
   pub values : AllAssignWords u.body (vars_of u.params i.ints)
-
--- Each unit of the one-loop form has it, for all sound inputs.
-abbrev pub OneLoopIsReady : Type 0
-OneLoopIsReady = (u : PlainUnit) (i : PlainInputs) → IsOneLoop u → IsSound u i → IsReady u i

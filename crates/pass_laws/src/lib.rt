@@ -2,7 +2,7 @@
 //! The laws stand on the run's definitions and on what the laws of instrumented texts ask of a piece.
 #![tactic(auto)]
 
-ghost use Rattle.pass_laws.specs.Laws.{CellsArePlaces, OneLoopIsReady, PassesCount, PassesCountInstances, PassesGoOn, PassesTurn, SourcesTurn, UnitsAreCounted, UnitsHavePieces, UnitsTurn, WritesArePlaces};
+ghost use Rattle.pass_laws.specs.Laws.{CellsArePlaces, PassesCount, PassesCountInstances, PassesGoOn, PassesTurn, SourcesTurn, UnitsAreCounted, UnitsHavePieces, UnitsTurn, WritesArePlaces};
 
 /// From every state a pass goes on, makes no access, and sets its own two words and the count alone; at its place it makes as many turns as the source.
 pub fn passes_go_on()
@@ -24,13 +24,4 @@ pub fn passes_count()
     ensures units { UnitsAreCounted }
 {
     instrumentation_laws::regular_units_are_counted();
-}
-
-/// Each unit of the one-loop form has, for all sound inputs, whatever the laws of instrumented units ask of a source and of its pieces.
-pub fn one_loop_passes()
-    ensures { OneLoopIsReady }
-{
-    passes_go_on();
-    passes_count();
-    run_laws::one_loop_follows();
 }

@@ -3,7 +3,6 @@ pub mod Within
 pub mod Steps
 pub mod Follows
 pub mod Runs
-pub mod OneLoop
 pub mod Alike
 pub mod Pieces
 pub mod Rows

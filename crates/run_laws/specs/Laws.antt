@@ -5,8 +5,7 @@ use Rattle.c_tree.specs.Values.{Vars, loop_values}
 use Rattle.c_tree.specs.Arrays.{Array, Memory, words_from, extents_at, vars_of, is_within, all_cells, cell_count, index_of}
 use Rattle.c_tree.specs.Accesses.{Clean}
 use Rattle.c_tree.specs.Instances.{Store, untagged, core_of, instances_all, applied, accesses, source_output}
-use Rattle.c_tree.specs.Inputs.{PlainInputs, arrays_for, memory_for, Fit, IsClean, IsSound}
-use Rattle.c_tree.specs.OneLoop.{IsOneLoop}
+use Rattle.c_tree.specs.Inputs.{PlainInputs, arrays_for, memory_for, Fit, IsClean}
 use Rattle.c_tree.specs.Run.{Event, State, Outcome, goes_on, Run, ◌>>◌, Scope, over, exec_all, plain, Ended, run}
 use Rattle.c_tree.specs.declared.expr.Rel.TheVariants.{Lt}
 use Rattle.balance_laws.specs.Replay.{Replays, left_after}
@@ -54,13 +53,6 @@ IsSourceFor u ns = (u.version ≡ None) × AreSource (arrays_for u ns) u.wides u
 
 abbrev pub UnitsFollow : Type 0
 UnitsFollow = (u : PlainUnit) (i : PlainInputs) → IsSourceFor u i.ints → IsClean u i → RunsThrough u i (run u i None)
-
--- the one-loop form has the premises, for all inputs that fit
-abbrev pub OneLoopIsSource : Type 0
-OneLoopIsSource = (u : PlainUnit) (i : PlainInputs) → IsOneLoop u → Fit u i → IsSourceFor u i.ints
-
-abbrev pub OneLoopFollows : Type 0
-OneLoopFollows = (u : PlainUnit) (i : PlainInputs) → IsOneLoop u → IsSound u i → RunsThrough u i (run u i None)
 
 -- ---- loops and cells
 

@@ -4,7 +4,6 @@ use Rattle.c_tree.specs.Plain.{Word, PlainUnit}
 use Rattle.c_tree.specs.Arrays.{vars_of}
 use Rattle.c_tree.specs.Fault.{Fault}
 use Rattle.c_tree.specs.Instances.{literal_of, accesses}
-use Rattle.c_tree.specs.OneLoop.{IsOneLoop}
 use Rattle.c_tree.specs.Inputs.{PlainInputs, arrays_for, memory_for, AreInRange, Fit, IsClean, IsSound}
 use Rattle.c_tree.specs.Run.{run}
 use Rattle.run_laws.specs.Laws.{IsSourceFor, RunsThrough}
@@ -14,7 +13,8 @@ use Rattle.instrumentation_laws.specs.WordValues.{AllAssignWords}
 use Rattle.pass_laws.specs.Countable.{AreOwn, AreCountable}
 use Rattle.pass_laws.specs.Laws.{HaveRanks, IsReady}
 use Rattle.instrumentation.specs.Guarded.{arrays_with_extents, guarded}
-use Rattle.acceptance.specs.Printed.{IsAcceptedPrinted}
+use Rattle.acceptance.specs.Printed.{IsAcceptedPrinted, StoresNothingBefore}
+use Rattle.acceptance.specs.Trees.{IsPrintedTree}
 use Rattle.acceptance.specs.Runnable.{IsRunnable}
 use Rattle.guard_laws.specs.Guards.{GuardsInDetail}
 use Rattle.acceptance.specs.Sources.{IsAcceptedSource, all_are_regular}
@@ -62,6 +62,13 @@ AcceptedArePrinted = (u : PlainUnit) → IsRegularSource u → IsAcceptedPrinted
 abbrev pub AcceptedAreRunnable : Type 0
 AcceptedAreRunnable = (u : PlainUnit) → IsRegularSource u → IsRunnable (guarded u)
 
+-- is a tree of the grammar, and stores into no array before `begin`,
+abbrev pub AcceptedHaveTrees : Type 0
+AcceptedHaveTrees = (u : PlainUnit) → IsRegularSource u → IsPrintedTree (guarded u)
+
+abbrev pub AcceptedStoreNothing : Type 0
+AcceptedStoreNothing = (u : PlainUnit) → IsRegularSource u → StoresNothingBefore (guarded u)
+
 -- it runs alike under every fault, within its arrays or not, where it makes fewer than 2^63 accesses,
 abbrev pub AcceptedRunAlike : Type 0
 AcceptedRunAlike = (u : PlainUnit) (i : PlainInputs) (fault : Option Fault) → IsRegularSource u → Fit u i → length (accesses u i.ints (memory_for u i)) < 2 ^ 63 →
@@ -70,9 +77,3 @@ AcceptedRunAlike = (u : PlainUnit) (i : PlainInputs) (fault : Option Fault) → 
 -- and guards it.
 abbrev pub AcceptedAreGuarded : Type 0
 AcceptedAreGuarded = (u : PlainUnit) → IsRegularSource u → GuardsInDetail u (guarded u)
-
--- ---- the one-loop form
-
--- Each unit of the one-loop form is such a source.
-abbrev pub OneLoopIsAccepted : Type 0
-OneLoopIsAccepted = (u : PlainUnit) → IsOneLoop u → IsRegularSource u

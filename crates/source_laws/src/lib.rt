@@ -8,7 +8,7 @@ ghost use Rattle.c_tree.specs.Inputs.{AreInRange};
 ghost use Rattle.guard_laws.specs.Guards.{Guards};
 ghost use Rattle.instrumentation.specs.Guarded.{guarded};
 ghost use Rattle.source_laws.specs.Exact.{IsExactFor};
-ghost use Rattle.source_laws.specs.Laws.{AcceptedAreExact, AcceptedAreGuarded, AcceptedAreReady, AcceptedAreRunnable, AcceptedAreSources, AcceptedArePrinted, AcceptedFollow, AcceptedHaveForms, AcceptedRunAlike, OneLoopIsAccepted, IsRegularSource};
+ghost use Rattle.source_laws.specs.Laws.{AcceptedAreExact, AcceptedAreGuarded, AcceptedAreReady, AcceptedAreRunnable, AcceptedAreSources, AcceptedArePrinted, AcceptedFollow, AcceptedHaveForms, AcceptedHaveTrees, AcceptedRunAlike, AcceptedStoreNothing, IsRegularSource};
 
 /// Where the parameters lie in their ranges no signed value of an accepted source wraps, index cells or not: its extents and bounds, the sides of its tests, its subscripts and the signed operands of its casts are what they are as whole numbers, at all values that the loops around them have.
 pub fn accepted_sources_are_exact()
@@ -33,10 +33,12 @@ pub fn accepted_sources_are_ready()
     pass_laws::passes_count();
 }
 
-/// The instrumented unit of such a source is accepted as a printed unit, and is one that the interpreter runs.
+/// The instrumented unit of such a source is accepted as a printed unit, and is one that the interpreter runs. It is a tree of the grammar of printed texts, and stores into no array before the source's statements begin.
 pub fn accepted_sources_are_printed()
     ensures printed { AcceptedArePrinted }
     ensures runs { AcceptedAreRunnable }
+    ensures tree { AcceptedHaveTrees }
+    ensures stores { AcceptedStoreNothing }
 {
     accepted_laws::accepted_source_is_regular();
     accepted_laws::regular_is_accepted();
@@ -56,13 +58,6 @@ pub fn accepted_sources_are_guarded()
 {
     guard_laws::ready_sources_are_guarded();
     accepted_sources_are_ready();
-}
-
-/// Each unit of the one-loop form is accepted, and has no irregular subscript.
-pub fn one_loop_is_accepted()
-    ensures { OneLoopIsAccepted }
-{
-    accepted_laws::one_loop_is_regular();
 }
 
 /// A nest of two loops over three arrays is such a source, and is guarded.

@@ -1,49 +1,53 @@
--- The inputs of the two sources are sound, and the sums are of the one-loop form.
-use Rattle.std.proofs.Common.{[], ◌∷◌, refl, arith, lit<, lit≤, codes}
+-- The inputs of the two sources are sound, and the sums are accepted.
+use Rattle.std.proofs.Common.{[], ◌∷◌, refl, arith, lit<, lit≤, codes, false}
 use Rattle.std.proofs.lemmas.Int.{ints}
 use Rattle.c_tree.specs.Instances.{core}
 use Rattle.c_tree.specs.Inputs.{arrays_for, memory_for, IsSound}
-use Rattle.c_tree.specs.OneLoop.{OneLoop, IsAllowed, IsOneLoop, bare, plus, minus, element}
+use Rattle.acceptance.specs.Trees.{IsNameIn, IsSourceTree}
 use Rattle.run_laws.proofs.Within.{clean_is}
+use Rattle.source_laws.specs.Laws.{IsRegularSource}
 use Rattle.turned_texts.specs.Sources.{sums, one_to_three, fill, five}
 
-abbrev parts : OneLoop
-parts = record {
-  function = codes "sums";
-  size = codes "n";
-  array = codes "A";
-  variable = codes "i";
-  lowest = 1;
-  highest = 1000;
-  first = 0;
-  last = minus 1;
-  target = plus 1;
-  item = element bare;
-  items = element bare ∷ element (plus 1) ∷ [];
+-- ---- the sums are accepted
+
+name_n : IsNameIn false (codes "n")
+name_n = record { word = refl; free = refl; short = omega arith }
+
+name_a : IsNameIn false (codes "A")
+name_a = record { word = refl; free = refl; short = omega arith }
+
+name_i : IsNameIn false (codes "i")
+name_i = record { word = refl; free = refl; short = omega arith }
+
+sums_tree : IsSourceTree sums
+sums_tree = record {
+  version = refl;
+  no_wides = refl;
+  head = record {
+    ranges = (record { name = name_n; low = (omega (arith, ints), omega (arith, ints)); high = (omega (arith, ints), omega (arith, ints)) }, tt);
+    name = record { word = refl; free = refl; short = omega arith };
+    some_param = λ e. (let f : ⊥ = cc in f);
+    params = (name_n, (name_a, (name_n, tt), omega arith, tt));
+    words = tt;
+    wides = tt;
+  };
+  body = (
+    (
+      name_i,
+      refl,
+      omega arith,
+      (name_n, omega arith),
+      ((refl, refl, (name_a, ((name_i, omega arith), tt)), (((name_a, (name_i, tt)), (name_a, (name_i, tt))), (name_a, ((name_i, omega arith), tt)))), tt),
+    ),
+    tt,
+  );
+  low = record { stmts = omega arith; exprs = omega arith; extents = omega arith };
 }
 
-allowed : IsAllowed parts
-allowed = record {
-  function = record { word = refl; short = lit≤ tt; free = refl };
-  size = record { word = refl; short = lit≤ tt; free = refl };
-  array = record { word = refl; short = lit≤ tt; free = refl };
-  variable = record { word = refl; short = lit≤ tt; free = refl };
-  size_differs = refl;
-  array_differs = (refl, refl);
-  variable_differs = (refl, refl, refl);
-  positive = lit≤ tt;
-  ordered = lit≤ tt;
-  bounded = lit≤ tt;
-  first = lit≤ tt;
-  last = lit≤ tt;
-  target = lit≤ tt;
-  each = (tt, (tt, (lit≤ tt, tt)));
-  few = lit≤ tt;
-  few_cells = lit≤ tt;
-}
+pub sums_regular : IsRegularSource sums
+sums_regular = record { accepted = record { tree = sums_tree; refused_nowhere = refl }; regular = refl }
 
-pub sums_is_one_loop : IsOneLoop sums
-sums_is_one_loop = record { parts = parts; allowed = allowed; same = refl }
+-- ---- their inputs are sound
 
 pub sums_sound : IsSound sums one_to_three
 sums_sound = record {

@@ -17,7 +17,7 @@ a at = element (codes "A") at
 abbrev pub next : PlainExpr
 next = bin Add (var i) (lit 1)
 
--- A[i + 1] = A[i] + A[i] + A[i + 1] for i < n - 1, of the one-loop form
+-- A[i + 1] = A[i] + A[i] + A[i + 1] for i < n - 1
 abbrev pub sums : PlainUnit
 sums = record (source (codes "sums") (int_param n ∷ array_of (codes "A") (var n) ∷ [])
     (for_below i (bin Sub (var n) (lit 1)) (set (a next) (bin Add (bin Add (a (var i)) (a (var i))) (a next)) ∷ []) ∷ []))

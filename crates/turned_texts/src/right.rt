@@ -10,14 +10,14 @@ ghost use Rattle.turned_texts.specs.Sources.{sums, one_to_three, fill, five};
 ghost use Rattle.turned_texts.specs.Turning.{unchanged, with_assignments, with_turned_pieces};
 ghost use Rattle.turned_texts.specs.Texts.{same_piece};
 
-/// The text of the one-loop source keeps every promise, and with nothing turned both ways give that text.
+/// The text of the sums keeps every promise, and with nothing turned both ways give that text.
 pub fn sums_are_guarded()
     ensures guards { GuardsInDetail sums (guarded sums) }
     ensures assignments { with_assignments unchanged sums ≡ guarded sums }
     ensures pieces { with_turned_pieces same_piece same_piece sums ≡ guarded sums }
     ensures sound { IsSound sums one_to_three }
 {
-    guard_laws::one_loop_guards();
+    source_laws::accepted_sources_are_guarded();
 }
 
 /// The other source's text is balanced without a fault, and names the array of one.
