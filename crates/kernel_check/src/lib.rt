@@ -13,5 +13,8 @@ mod top;
 mod walk;
 
 pub use judge::{judge_printed, judge_source};
-pub use kernel::{Kernel, Printed, check, check_printed, frame};
+pub use kernel::{Kernel, Printed, check, check_printed, class_of, frame};
 pub use laws::refused_or_not;
+pub use sites::{
+    Class, LoopInfo, Loops, Sides, SiteInfo, SiteTests, Subscript, Subscripts, TestInfo,
+};
