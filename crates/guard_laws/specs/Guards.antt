@@ -7,17 +7,17 @@ use Rattle.c_tree.specs.Arrays.{words_from, extents_at, cell_count, vars_of}
 use Rattle.c_tree.specs.Accesses.{Access}
 use Rattle.c_tree.specs.Fault.{Fault, Upset, upset_of, Exposed}
 use Rattle.c_tree.specs.Instances.{accesses, source_output}
-use Rattle.c_tree.specs.Inputs.{PlainInputs, arrays_for, memory_for, IsSound}
+use Rattle.c_tree.specs.Inputs.{PlainInputs, arrays_for, memory_for, Fit, IsClean, IsSound}
 use Rattle.c_tree.specs.Run.{State, exec_all, balanced, fault as faulty, Reports, run, turns}
 use Rattle.run_laws.specs.Logs.{values_in}
 use Rattle.instrumentation.specs.Passes.{Target, pass_text, cell_piece, write_pieces_all, piece_at}
 use Rattle.instrumentation.specs.Guarded.{arrays_with_extents, guarded}
 use Rattle.instrumentation_laws.specs.Setting.{scope_of}
-use Rattle.instrumentation_laws.specs.UnitLaws.{IsCounted, totals_over}
+use Rattle.instrumentation_laws.specs.UnitLaws.{IsCounted, RunsAlike, EndOutside, totals_over}
 use Rattle.instrumentation_laws.specs.RegularUnits.{number_for, wides_for}
 use Rattle.pass_laws.specs.Countable.{AllHaveNoCells}
 use Rattle.pass_laws.specs.Going.{GoesTo, Turned}
-use Rattle.pass_laws.specs.Laws.{IsReady}
+use Rattle.pass_laws.specs.Laws.{HasForms}
 use Rattle.pass_laws.specs.Places.{IsPlace}
 
 -- ---- without a fault
@@ -61,6 +61,20 @@ abbrev pub NamesTheArray : PlainUnit → PlainUnit → Type 0
 NamesTheArray source unit = (i : PlainInputs) (f : Fault) → IsSound source i → IsFaultIn source i f →
     (IsRead source i f → (run unit i (Some f)).verdict ≡ faulty (f.array ∷ [])) × (¬ IsRead source i f → (run unit i (Some f)).verdict ≡ balanced)
 
+-- ---- inputs that fit, sound or not, under every fault
+
+-- The unit runs as the source does: it makes the same accesses with the same values, leaves the same arrays, and ends as the source does, its totals deciding where that ends plain.
+abbrev pub RunsAsSource : PlainUnit → PlainUnit → Type 0
+RunsAsSource source unit = (i : PlainInputs) (fault : Option Fault) → Fit source i → RunsAlike (run source i fault) (run unit i fault)
+
+-- Where the source leaves its arrays, both end outside the same one.
+abbrev pub EndsOutsideAlike : PlainUnit → PlainUnit → Type 0
+EndsOutsideAlike source unit = (i : PlainInputs) (fault : Option Fault) → Fit source i → ¬ IsClean source i → EndOutside (run source i fault) (run unit i fault)
+
+-- It makes no table.
+abbrev pub MakesNoTable : PlainUnit → PlainUnit → Type 0
+MakesNoTable source unit = (i : PlainInputs) (fault : Option Fault) → Fit source i → (run unit i fault).tables ≡ []
+
 -- ---- counting passes
 
 -- The unit is an instrumented text of the source whose pieces, counting passes, count: under every fault each sets the count to the uses of the definition that is made, makes no access, and changes names of its own alone.
@@ -90,7 +104,10 @@ pub record GuardsInDetail (source unit : PlainUnit) : Type 0 where
   pub names : NamesTheArray source unit
   pub counted : CountsUses source unit
   pub turns : PassesTurnAsSource source
+  pub alike : RunsAsSource source unit
+  pub ends : EndsOutsideAlike source unit
+  pub tables : MakesNoTable source unit
 
--- Each source that is ready, whatever sound inputs it has, is guarded by its instrumented unit.
+-- Each source that has these forms, whatever inputs fit, is guarded by its instrumented unit.
 abbrev pub ReadyAreGuarded : Type 0
-ReadyAreGuarded = (u : PlainUnit) → ((i : PlainInputs) → IsSound u i → IsReady u i) → GuardsInDetail u (guarded u)
+ReadyAreGuarded = (u : PlainUnit) → ((i : PlainInputs) → Fit u i → HasForms u i) → GuardsInDetail u (guarded u)

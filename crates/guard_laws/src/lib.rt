@@ -3,7 +3,7 @@
 
 ghost use Rattle.guard_laws.specs.Guards.{ReadyAreGuarded};
 
-/// Each source that is ready for its instrumented unit, whatever sound inputs it has, is guarded by it.
+/// Each source that has the forms that counting passes ask for, whatever inputs fit, is guarded by its instrumented unit.
 pub fn ready_sources_are_guarded()
     ensures { ReadyAreGuarded }
 {
@@ -11,4 +11,6 @@ pub fn ready_sources_are_guarded()
     instrumentation_laws::every_unit_balances();
     instrumentation_laws::every_unit_tells();
     pass_laws::passes_go_on();
+    pass_laws::passes_make_no_table();
+    pass_laws::forms_are_ready();
 }

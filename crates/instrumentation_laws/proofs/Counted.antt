@@ -16,8 +16,7 @@ use Rattle.instrumentation_laws.specs.Pieces.{Declares, Piece, Counts}
 use Rattle.instrumentation_laws.specs.Setting.{scope_of}
 use Rattle.instrumentation_laws.proofs.Names.{own_may}
 use Rattle.instrumentation_laws.proofs.Outcomes.{IfGoing, going_then}
-use Rattle.instrumentation_laws.proofs.Steps.{exec_join, exec_one, set_value, all_hold_is}
-use Rattle.instrumentation_laws.proofs.Simulate.{full_data}
+use Rattle.instrumentation_laws.proofs.Steps.{full_data, exec_join, exec_one, set_value, all_hold_is}
 use Rattle.instrumentation_laws.proofs.CountedSteps.{At, bad, loads_counted, pure_goes, store_counted, turn_counted, over_counted}
 
 module _ (arrays : List Array) (number : Word → ℕ) (wides : List Word) (fault : Option Upset) (names : Declares arrays number wides) (whole : List Tagged) (start : ℕ → ℕ) (inputs : Memory) (extents : ℕ → List ℤ) (sizes : (x : Word) (a : IsArray arrays number x) → a.array.1.extents ≡ extents a.array.0) (pieces : ℕ → List PlainStmt)
@@ -85,7 +84,7 @@ module _ (arrays : List Array) (number : Word → ℕ) (wides : List Word) (faul
         rw (exec_one vs_scope (choice ts (stmts_of (instrument_all number pieces k first)) (stmts_of (instrument_all number pieces (k + sites_all first) other))) vs s, all_hold_is vs_scope ts vs s h.0)
         (choice_counted (tests_hold ts vs) (exec_all vs_scope (stmts_of (instrument_all number pieces k first)) vs) (exec_all vs_scope (stmts_of (instrument_all number pieces (k + sites_all first) other)) vs) (tagged_all number k first vs) (tagged_all number (k + sites_all first) other vs) pre rest s is
         (λ is. run_counted_all first k vs pre rest s h.1 o is a) (λ is. run_counted_all other (k + sites_all first) vs pre rest s h.2 o is a))
-    run_counted (assign t op e) k vs pre rest s h o is a = assign_counted t (full t op e) k vs pre rest s h.0 (full_data arrays number wides fault names t op e vs h.0 h.1) o is a
+    run_counted (assign t op e) k vs pre rest s h o is a = assign_counted t (full t op e) k vs pre rest s h.0 (full_data arrays number t op e vs h.0 h.1) o is a
     run_counted (table x len) k vs pre rest s h o is a = absurd h
     run_counted begin k vs pre rest s h o is a = absurd h
     run_counted (check x extent n) k vs pre rest s h o is a = absurd h

@@ -10,6 +10,8 @@ pub mod CountedSteps
 pub mod Counted
 pub mod CellLoops
 pub mod Prologue
+pub mod QuietPrologue
+pub mod Leaving
 pub mod PositionSums
 pub mod Texts
 pub mod CoreList

@@ -11,6 +11,10 @@ pub going_then : {A B : Type 0} (bad : Type 0) (P : A → State → Type 0) (Q :
 going_then bad P Q (goes_on a s) f p h = h a s p
 going_then bad P Q (ends e s) f p h = p
 
+pub going_weaker : {A : Type 0} (bad : Type 0) (P Q : A → State → Type 0) (o : Outcome A) → IfGoing bad P o → ((a : A) (s : State) → P a s → Q a s) → IfGoing bad Q o
+going_weaker bad P Q (goes_on a s) p h = h a s p
+going_weaker bad P Q (ends e s) p h = p
+
 -- a run goes on, and this holds
 abbrev pub MustGo : {A : Type 0} → (A → State → Type 0) → Outcome A → Type 0
 MustGo P o = IfGoing ⊥ P o

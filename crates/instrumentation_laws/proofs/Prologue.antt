@@ -57,10 +57,15 @@ module _ (arrays : List Array) (number : Word → ℕ) (wides : List Word) (faul
   abbrev ts : Scope
   ts = scope_of arrays wides fault
 
-  cell_filled : (a : ℕ) (x : Word) (es : PlainExprs) (piece : List PlainStmt) (p : Piece ts piece) (base : State) → IsDeclared arrays number vs extents a x es → CountsCells ts whole vs (extents a) a piece p →
-      (cs : List ℤ) → is_within cs (extents a) ≡ true → (n : ℕ) (t : State) → Filling base a n t →
-      MustGo (λ b t. Filling base a (n + base.memory a cs * uses_in whole (Initial a cs)) t) (exec_all ts (stmts_of (cell_text a x es piece)) (coordinate_vars 0 cs vs) t)
-  cell_filled a x es piece p base d c cs w n t h =
+  -- the text of a cell in one step
+  abbrev pub cell_added : (a : ℕ) (piece : List PlainStmt) (p : Piece ts piece) (cs : List ℤ) (t : State) → State
+  cell_added a piece p cs t =
+      let t2 : State = p.to (coordinate_vars 0 cs vs) (record t { words = put t.words (register 0) (t.memory a cs) }) in
+      record t2 { wides = put t2.wides (definition_total a) ((t2.wides (definition_total a) + (t2.words (register 0) * t2.wides count) % 2 ^ 128) % 2 ^ 128) }
+
+  pub cell_text_is : (a : ℕ) (x : Word) (es : PlainExprs) (piece : List PlainStmt) (p : Piece ts piece) → IsDeclared arrays number vs extents a x es → (cs : List ℤ) → is_within cs (extents a) ≡ true → (t : State) → t.begun ≡ false →
+      exec_all ts (stmts_of (cell_text a x es piece)) (coordinate_vars 0 cs vs) t ≡ goes_on tt (cell_added a piece p cs t)
+  cell_text_is a x es piece p d cs w t b =
       let env : Vars = coordinate_vars 0 cs vs in
       let oe : AllMayLoop env = own_under cs 0 vs o in
       let v : ℕ = t.memory a cs in
@@ -72,19 +77,26 @@ module _ (arrays : List Array) (number : Word → ℕ) (wides : List Word) (faul
       cell_is arrays number wides fault x (coordinates_from 0 es) env t d.array (subscripts_regular es (extents a) cs 0 vs vs d.measures w) ∙
       ap (λ cs. within d.array.array cs (loads ts) t) at ∙
       within_go d.array.array cs (loads ts) t lies ∙
-      load_before ts d.array.array.0 cs t h.begun ∙
+      load_before ts d.array.array.0 cs t b ∙
       ap (λ n. let q : Outcome ℕ = goes_on (t.memory n cs) t in q) d.number_is in
       let one : exec ts (assign (var (register 0)) None (cell x (coordinates_from 0 es))) env t ≡ goes_on tt t1 =
       set_is ts (register 0) (cell x (coordinates_from 0 es)) env t (names.registers 0) ∙ ap (λ q. and_then q (set_word (register 0))) loaded in
-      let small : a < 2 ^ 64 = (let e = d.number_is in let g = d.array.small in omega arith) in
-      let all : exec_all ts (stmts_of (cell_text a x es piece)) env t ≡ goes_on tt (record t2 { wides = put t2.wides (definition_total a) ((t2.wides (definition_total a) + (t2.words (register 0) * t2.wides count) % 2 ^ 128) % 2 ^ 128) }) =
       ap (λ q. and_then q (λ (u : Unit {0}) t. exec_all ts (stmts_of (piece ++ add_cell a)) env t)) one ∙
       exec_join ts piece (add_cell a) env t1 ∙
       ap (λ q. and_then q (λ (u : Unit {0}) t. exec_all ts (stmts_of (add_cell a)) env t)) (p.goes env oe t1) ∙
-      add_cell_is ts a env t2 oe (subst (λ k. list_any (bytes_eq (definition_total k)) wides ≡ true) d.number_is (names.defined x d.array)) in
+      add_cell_is ts a env t2 oe (subst (λ k. list_any (bytes_eq (definition_total k)) wides ≡ true) d.number_is (names.defined x d.array))
+
+  cell_filled : (a : ℕ) (x : Word) (es : PlainExprs) (piece : List PlainStmt) (p : Piece ts piece) (base : State) → IsDeclared arrays number vs extents a x es → CountsCells ts whole vs (extents a) a piece p →
+      (cs : List ℤ) → is_within cs (extents a) ≡ true → (n : ℕ) (t : State) → Filling base a n t →
+      MustGo (λ b t. Filling base a (n + base.memory a cs * uses_in whole (Initial a cs)) t) (exec_all ts (stmts_of (cell_text a x es piece)) (coordinate_vars 0 cs vs) t)
+  cell_filled a x es piece p base d c cs w n t h =
+      let env : Vars = coordinate_vars 0 cs vs in
+      let v : ℕ = t.memory a cs in
+      let t1 : State = record t { words = put t.words (register 0) v } in
+      let t2 : State = p.to env t1 in
       let word_is : t2.words (register 0) ≡ base.memory a cs = p.words env t1 (register 0) (register_no_piece 0) ∙ ap (λ b. cond b v (t.words (register 0))) (same_word (register 0)) ∙ ap (λ (m : Memory). m a cs) h.memory in
       let before : t2.wides (definition_total a) ≡ n % 2 ^ 128 = p.wides env t1 (definition_total a) (count_definition a) ∙ h.total in
-      subst (λ q. MustGo (λ (b : Unit {0}) t. Filling base a (n + base.memory a cs * uses_in whole (Initial a cs)) t) q) (sym all) (record {
+      subst (λ q. MustGo (λ (b : Unit {0}) t. Filling base a (n + base.memory a cs * uses_in whole (Initial a cs)) t) q) (sym (cell_text_is a x es piece p d cs w t h.begun)) (record {
         memory = p.memory env t1 ∙ h.memory;
         accesses = p.accesses env t1 ∙ h.accesses;
         begun = p.begun env t1 ∙ h.begun;

@@ -11,8 +11,8 @@ use Rattle.instrumentation.specs.Names.{result, active, counter}
 use Rattle.instrumentation.specs.Body.{registers_all}
 use Rattle.instrumentation.specs.Guarded.{arrays_with_extents, array_names, register_words, own_words}
 use Rattle.instrumentation_laws.specs.OwnNames.{own}
-use Rattle.instrumentation_laws.specs.Setting.{Setting}
-use Rattle.instrumentation_laws.specs.RegularUnits.{number_for, RegularUnitsAreCounted, GuardedIsInstrumented}
+use Rattle.instrumentation_laws.specs.Setting.{GoingSetting, Setting}
+use Rattle.instrumentation_laws.specs.RegularUnits.{number_for, RegularUnitsAreCounted, RegularUnitsGoOn, GuardedIsInstrumented}
 use Rattle.instrumentation_laws.proofs.Names.{apart_as', register_not_own, result_not_own}
 use Rattle.instrumentation_laws.proofs.Declared.{names_are, declares, sizes_are, declared_from}
 
@@ -34,6 +34,24 @@ regular_counted u t ns fault cells pieces regular text wides has =
       });
       all = sym (length-map arrays (λ (r : Array). r.name)) ∙ ap length same ∙ length-map (arrays_with_extents u.params) (λ a. a.0);
       few = let e = length-map (arrays_with_extents u.params) (λ (a : Word × PlainExprs). a.0) in let f = regular.few in omega arith;
+    }
+
+pub regular_going : RegularUnitsGoOn
+regular_going u t ns fault cells pieces regular text wides sites prologue =
+    let vs : Vars = vars_of u.params ns in
+    let arrays : List Array = arrays_for u ns in
+    let same = names_are vs u.params in
+    record {
+      text = text;
+      setting = subst (λ (ws : List Word). GoingSetting arrays (number_for u) ws fault vs (extents_at arrays) (arrays_with_extents u.params) u.body cells pieces) (sym wides) (record {
+        names = declares arrays (array_names u.params) same (number_for u);
+        vars = regular.params;
+        declared = declared_from arrays (array_names u.params) same regular.few vs [] u.params refl tt regular.arrays;
+        sizes = sizes_are arrays (number_for u);
+        source = regular.body;
+        pieces_go = sites;
+        cells_go = prologue;
+      });
     }
 
 -- ---- the words of the text's own

@@ -17,7 +17,7 @@ use Rattle.instrumentation_laws.specs.AccessList.{signed_all, tests_hold}
 use Rattle.instrumentation_laws.specs.Pieces.{Declares, Piece}
 use Rattle.instrumentation_laws.specs.Setting.{scope_of}
 use Rattle.instrumentation_laws.proofs.Names.{own_may, result_not_own, apart_as', own_no_piece}
-use Rattle.instrumentation_laws.proofs.Steps.{exec_join, exec_one, set_value, defined, store_is, cell_assigned, var_assigned, all_hold_is}
+use Rattle.instrumentation_laws.proofs.Steps.{full_data, exec_join, exec_one, set_value, defined, store_is, cell_assigned, var_assigned, all_hold_is}
 use Rattle.run_laws.proofs.Alike.{Alike}
 use Rattle.instrumentation_laws.proofs.Likeness.{Like, like_then, like_second, Agree, within_store}
 use Rattle.instrumentation_laws.proofs.Loads.{Loaded, loads_like}
@@ -30,22 +30,6 @@ module _ (arrays : List Array) (number : Word → ℕ) (wides : List Word) (faul
 
   abbrev tc : Scope
   tc = scope_of arrays wides fault
-
-  pub full_data : (t : PlainExpr) (op : Option BinOp) (e : PlainExpr) (vs : Vars) → IsTarget arrays number t vs → IsData arrays number e vs → IsData arrays number (full t op e) vs
-  full_data t None e vs h d = d
-  full_data (var x) (Some op) e vs h d = (h, d)
-  full_data (cell x at) (Some op) e vs h d = (h, d)
-  full_data (lit n) (Some op) e vs h d = absurd h
-  full_data (un o a) (Some op) e vs h d = absurd h
-  full_data (bin o a b) (Some op) e vs h d = absurd h
-  full_data (cast a) (Some op) e vs h d = absurd h
-  full_data (test rel a b) (Some op) e vs h d = absurd h
-  full_data (umin a b) (Some op) e vs h d = absurd h
-  full_data (umax a b) (Some op) e vs h d = absurd h
-  full_data (least a b) (Some op) e vs h d = absurd h
-  full_data (greatest a b) (Some op) e vs h d = absurd h
-  full_data (widen a) (Some op) e vs h d = absurd h
-  full_data (big high low) (Some op) e vs h d = absurd h
 
   put_alike : (x : Word) (a : ℕ) (s u : State) → Alike own s u → Alike own (record s { words = put s.words x a }) (record u { words = put u.words x a })
   put_alike x a s u h = record { memory = h.memory; accesses = h.accesses; begun = h.begun; words = λ y o. chosen y (bytes_eq x y) (h.words y o) }
@@ -138,7 +122,7 @@ module _ (arrays : List Array) (number : Word → ℕ) (wides : List Word) (faul
         rw (exec_one us (choice ts (stmts_of (instrument_all number pieces k first)) (stmts_of (instrument_all number pieces (k + sites_all first) other))) vs u, all_hold_is ss ts vs s h.0, all_hold_is us ts vs u h.0)
         (choice_like arrays number wides fault names (tests_hold ts vs) (exec_all ss first vs) (exec_all ss other vs) (exec_all us (stmts_of (instrument_all number pieces k first)) vs) (exec_all us (stmts_of (instrument_all number pieces (k + sites_all first) other)) vs) s u
         (simulates_all first k vs s u h.1 o a) (simulates_all other (k + sites_all first) vs s u h.2 o a))
-    simulates (assign t op e) k vs s u h o a = assign_like t op e k vs s u h.0 (full_data arrays number wides fault names t op e vs h.0 h.1) o h.2 a
+    simulates (assign t op e) k vs s u h o a = assign_like t op e k vs s u h.0 (full_data arrays number t op e vs h.0 h.1) o h.2 a
     simulates (table x len) k vs s u h o a = absurd h
     simulates begin k vs s u h o a = absurd h
     simulates (check x extent n) k vs s u h o a = absurd h

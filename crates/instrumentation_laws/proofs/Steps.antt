@@ -2,7 +2,7 @@
 use Rattle.std.proofs.Common.{◌≡◌, ℕ, ◌+◌, ◌*◌, ◌%◌, ◌^◌, Bool, true, false, cond, ◌&&◌, if◌then◌else◌, List, [], ◌∷◌, ◌++◌, length, refl, sym, ap, ◌∙◌, subst, ℤ, Option, Some, None}
 use Rattle.std.specs.Prelude.{bytes_eq, slice_index}
 use Rattle.std.specs.List.{list_any}
-use Rattle.c_tree.specs.Plain.{Word, PlainExpr, var, cell, widen, PlainExprs, no_exprs, more_exprs, PlainTest, PlainStmt, assign}
+use Rattle.c_tree.specs.Plain.{Word, PlainExpr, lit, var, cell, un, bin, cast, test, umin, umax, least, greatest, widen, big, PlainExprs, no_exprs, more_exprs, PlainTest, PlainStmt, assign}
 use Rattle.c_tree.specs.Trees.{stmts_of}
 use Rattle.c_tree.specs.Values.{Vars, signed, signed_holds, word_bin}
 use Rattle.c_tree.specs.Arrays.{Array, Memory, stored}
@@ -15,7 +15,7 @@ use Rattle.c_tree.specs.declared.expr.BinOp.TheVariants.{Add}
 use Rattle.instrumentation.specs.Names.{register, result, count, use_total, definition_total}
 use Rattle.instrumentation.specs.Body.{load_text, store_text, add_text, full}
 use Rattle.instrumentation_laws.specs.OwnNames.{AllMayLoop}
-use Rattle.instrumentation_laws.specs.RegularSources.{IsArray, AreRegular, AreSigned}
+use Rattle.instrumentation_laws.specs.RegularSources.{IsArray, AreRegular, AreSigned, IsData, IsTarget}
 use Rattle.instrumentation_laws.specs.AccessList.{signed_all, tests_hold}
 use Rattle.instrumentation_laws.specs.Pieces.{Declares, Piece}
 use Rattle.instrumentation_laws.specs.Setting.{scope_of}
@@ -205,6 +205,23 @@ module _ (arrays : List Array) (number : Word → ℕ) (wides : List Word) (faul
       (add_definition text_scope a.array.0 vs (p.to vs t) o (names.defined x a)))
 
 -- ---- assignments and tests of a source
+
+-- the full value of an assignment is data
+pub full_data : (arrays : List Array) (number : Word → ℕ) (t : PlainExpr) (op : Option BinOp) (e : PlainExpr) (vs : Vars) → IsTarget arrays number t vs → IsData arrays number e vs → IsData arrays number (full t op e) vs
+full_data arrays number t None e vs h d = d
+full_data arrays number (var x) (Some op) e vs h d = (h, d)
+full_data arrays number (cell x at) (Some op) e vs h d = (h, d)
+full_data arrays number (lit n) (Some op) e vs h d = absurd h
+full_data arrays number (un o a) (Some op) e vs h d = absurd h
+full_data arrays number (bin o a b) (Some op) e vs h d = absurd h
+full_data arrays number (cast a) (Some op) e vs h d = absurd h
+full_data arrays number (test rel a b) (Some op) e vs h d = absurd h
+full_data arrays number (umin a b) (Some op) e vs h d = absurd h
+full_data arrays number (umax a b) (Some op) e vs h d = absurd h
+full_data arrays number (least a b) (Some op) e vs h d = absurd h
+full_data arrays number (greatest a b) (Some op) e vs h d = absurd h
+full_data arrays number (widen a) (Some op) e vs h d = absurd h
+full_data arrays number (big high low) (Some op) e vs h d = absurd h
 
 -- an assignment to a cell gives it the full value
 pub cell_assigned : (arrays : List Array) (number : Word → ℕ) (wides : List Word) (fault : Option Upset) (x : Word) (at : PlainExprs) (op : Option BinOp) (e : PlainExpr) (vs : Vars) (s : State) →

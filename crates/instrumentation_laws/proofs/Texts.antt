@@ -22,7 +22,7 @@ use Rattle.instrumentation_laws.specs.AccessList.{tagged_all}
 use Rattle.instrumentation_laws.specs.Pieces.{uses_in}
 use Rattle.instrumentation_laws.specs.RunningTotals.{written_sum, Totals}
 use Rattle.instrumentation_laws.specs.PrologueTotals.{initial_sum, Left}
-use Rattle.instrumentation_laws.specs.Setting.{text, scope_of, Setting, IsStart}
+use Rattle.instrumentation_laws.specs.Setting.{text, scope_of, GoingSetting, Setting, IsStart}
 use Rattle.instrumentation_laws.specs.TextLaws.{EndsWith, WhereGoing, Balanced, Tells, EndAlike}
 use Rattle.instrumentation_laws.proofs.Outcomes.{IfGoing, MustGo}
 use Rattle.instrumentation_laws.proofs.Steps.{exec_join}
@@ -30,6 +30,7 @@ use Rattle.instrumentation_laws.proofs.Likeness.{Like, Agree}
 use Rattle.instrumentation_laws.proofs.Simulate.{simulates_all}
 use Rattle.instrumentation_laws.proofs.Counted.{run_counted_all}
 use Rattle.instrumentation_laws.proofs.Prologue.{prologue_go, start, begin_totals}
+use Rattle.instrumentation_laws.proofs.QuietPrologue.{Unmoved, prologue_unmoved}
 use Rattle.instrumentation_laws.proofs.PositionSums.{read_sum_is, total_is}
 
 module _ (arrays : List Array) (number : Word → ℕ) (wides : List Word) (fault : Option Upset) (vs : Vars) (extents : ℕ → List ℤ) (decls : List (Word × PlainExprs)) (body : PlainStmts) (cells : ℕ → PlainExprs → List PlainStmt) (pieces : ℕ → List PlainStmt)
@@ -82,19 +83,29 @@ module _ (arrays : List Array) (number : Word → ℕ) (wides : List Word) (faul
       chosen (goes_on u t) l = body_ends s t h l
       chosen (ends e t) l = absurd l
 
-  alike_ends : (o q : Outcome (Unit {0})) → Like Agree o q → EndAlike o q
-  alike_ends (goes_on a s) (goes_on b u) h = record { begun = sym h.begun; memory = sym h.memory; accesses = sym h.accesses; words = λ x o. sym (h.words x o) }
-  alike_ends (ends e s) (ends f u) h = (h.0, record { begun = sym h.1.begun; memory = sym h.1.memory; accesses = sym h.1.accesses; words = λ x o. sym (h.1.words x o) })
-  alike_ends (goes_on a s) (ends f u) h = absurd h
-  alike_ends (ends e s) (goes_on b u) h = absurd h
+-- ---- beside the source
+
+alike_ends : (o q : Outcome (Unit {0})) → Like Agree o q → EndAlike o q
+alike_ends (goes_on a s) (goes_on b u) h = record { begun = sym h.begun; memory = sym h.memory; accesses = sym h.accesses; words = λ x o. sym (h.words x o) }
+alike_ends (ends e s) (ends f u) h = (h.0, record { begun = sym h.1.begun; memory = sym h.1.memory; accesses = sym h.1.accesses; words = λ x o. sym (h.1.words x o) })
+alike_ends (goes_on a s) (ends f u) h = absurd h
+alike_ends (ends e s) (goes_on b u) h = absurd h
+
+module _ (arrays : List Array) (number : Word → ℕ) (wides : List Word) (fault : Option Upset) (vs : Vars) (extents : ℕ → List ℤ) (decls : List (Word × PlainExprs)) (body : PlainStmts) (cells : ℕ → PlainExprs → List PlainStmt) (pieces : ℕ → List PlainStmt)
+    (set : GoingSetting arrays number wides fault vs extents decls body cells pieces) where
+  abbrev follow_scope : Scope
+  follow_scope = scope_of arrays wides fault
+
+  abbrev after : State → Outcome (Unit {0})
+  after t = exec_all follow_scope (stmts_of (instrument_all number pieces 0 body)) vs (record t { begun = true })
 
   pub text_follows : (s u : State) → IsStart u → s.begun ≡ true → s.accesses ≡ [] → u.memory ≡ s.memory → ((x : Word) → own x ≡ true → u.words x ≡ s.words x) →
-      EndAlike (exec_all (scope_of arrays [] fault) body vs s) (exec_all sc (stmts_of (text decls cells number pieces body)) vs u)
-  text_follows s u h b e m w = rw (text_is u) (chosen (exec_all sc (stmts_of (prologue_text cells 0 decls)) vs u) (prologue_is u h))
+      EndAlike (exec_all (scope_of arrays [] fault) body vs s) (exec_all follow_scope (stmts_of (text decls cells number pieces body)) vs u)
+  text_follows s u h b e m w = rw (exec_join follow_scope (prologue_text cells 0 decls) (begin ∷ instrument_all number pieces 0 body) vs u) (chosen (exec_all follow_scope (stmts_of (prologue_text cells 0 decls)) vs u) (prologue_unmoved arrays number wides fault set.names vs set.vars extents cells decls 0 u set.cells_go set.declared h.begun))
     where
-      chosen : (o : Outcome (Unit {0})) → MustGo (λ (b : Unit {0}) t. Left whole extents 0 (length decls) u t) o → EndAlike (exec_all (scope_of arrays [] fault) body vs s) (and_then o (λ (u : Unit {0}) t. rest t))
-      chosen (goes_on v t) l = alike_ends (exec_all (scope_of arrays [] fault) body vs s) (rest t)
-          (simulates_all arrays number wides fault set.names pieces (λ k. (set.pieces_count k).piece) body 0 vs s (record t { begun = true }) set.source set.vars
+      chosen : (o : Outcome (Unit {0})) → MustGo (λ (b : Unit {0}) t. Unmoved u t) o → EndAlike (exec_all (scope_of arrays [] fault) body vs s) (and_then o (λ (u : Unit {0}) t. after t))
+      chosen (goes_on v t) l = alike_ends (exec_all (scope_of arrays [] fault) body vs s) (after t)
+          (simulates_all arrays number wides fault set.names pieces set.pieces_go body 0 vs s (record t { begun = true }) set.source set.vars
           (record { memory = sym (l.memory ∙ m); accesses = e ∙ sym (l.accesses ∙ h.accesses); begun = b; words = λ x o. sym (l.words x o ∙ w x o) }))
       chosen (ends e t) l = absurd l
 

@@ -65,6 +65,11 @@ abbrev pub AreCellPieces : Scope → List Tagged → Vars → (ℕ → List ℤ)
 AreCellPieces sc whole vs extents cells a [] = Unit {0}
 AreCellPieces sc whole vs extents cells a (x ∷ more) = IsCellPiece sc whole vs (extents a) a (cells a x.1) × AreCellPieces sc whole vs extents cells (suc a) more
 
+-- pieces of the arrays from number a on that go on, whatever they count
+abbrev pub AreGoing : Scope → (ℕ → PlainExprs → List PlainStmt) → ℕ → List (Word × PlainExprs) → Type 0
+AreGoing sc cells a [] = Unit {0}
+AreGoing sc cells a (x ∷ more) = Piece sc (cells a x.1) × AreGoing sc cells (suc a) more
+
 abbrev pub cell_sum : (List ℤ → ℕ) → List (List ℤ) → ℕ
 cell_sum f [] = 0
 cell_sum f (cs ∷ more) = f cs + cell_sum f more

@@ -12,10 +12,10 @@ use Rattle.instrumentation.specs.Guarded.{arrays_with_extents, array_names, tota
 use Rattle.instrumentation_laws.specs.OwnNames.{AllMayLoop}
 use Rattle.instrumentation_laws.specs.RegularSources.{AreSource}
 use Rattle.instrumentation_laws.specs.AccessList.{tagged_all}
-use Rattle.instrumentation_laws.specs.Pieces.{IsSitePiece}
-use Rattle.instrumentation_laws.specs.PrologueTotals.{Measures, AreCellPieces}
+use Rattle.instrumentation_laws.specs.Pieces.{Piece, IsSitePiece}
+use Rattle.instrumentation_laws.specs.PrologueTotals.{Measures, AreCellPieces, AreGoing}
 use Rattle.instrumentation_laws.specs.Setting.{scope_of}
-use Rattle.instrumentation_laws.specs.UnitLaws.{IsInstrumented, IsCounted}
+use Rattle.instrumentation_laws.specs.UnitLaws.{IsInstrumented, IsGoing, IsCounted}
 
 -- no two arrays have one name, and no extent wraps
 abbrev pub AreMeasured : Vars → List PlainParam → Type 0
@@ -51,6 +51,13 @@ abbrev pub RegularUnitsAreCounted : Type 0
 RegularUnitsAreCounted = (u t : PlainUnit) (ns : List ℤ) (fault : Option Upset) (cells : ℕ → PlainExprs → List PlainStmt) (pieces : ℕ → List PlainStmt) →
     IsRegular u ns → IsInstrumented u t (number_for u) (arrays_with_extents u.params) cells pieces → t.wides ≡ wides_for u → HasPieces u ns fault cells pieces →
     IsCounted u t ns fault (number_for u) (arrays_with_extents u.params) cells pieces
+
+-- So it is with pieces that go on.
+abbrev pub RegularUnitsGoOn : Type 0
+RegularUnitsGoOn = (u t : PlainUnit) (ns : List ℤ) (fault : Option Upset) (cells : ℕ → PlainExprs → List PlainStmt) (pieces : ℕ → List PlainStmt) →
+    IsRegular u ns → IsInstrumented u t (number_for u) (arrays_with_extents u.params) cells pieces → t.wides ≡ wides_for u →
+    ((k : ℕ) → Piece (scope_of (arrays_for u ns) (wides_for u) fault) (pieces k)) → AreGoing (scope_of (arrays_for u ns) (wides_for u) fault) cells 0 (arrays_with_extents u.params) →
+    IsGoing u t ns fault (number_for u) (arrays_with_extents u.params) cells pieces
 
 -- The unit with counting passes is an instrumented unit of its source.
 abbrev pub GuardedIsInstrumented : Type 0

@@ -11,8 +11,8 @@ use Rattle.instrumentation.specs.Prologue.{prologue_text}
 use Rattle.instrumentation_laws.specs.OwnNames.{AllMayLoop}
 use Rattle.instrumentation_laws.specs.RegularSources.{IsArray, AreSource}
 use Rattle.instrumentation_laws.specs.AccessList.{tagged_all}
-use Rattle.instrumentation_laws.specs.Pieces.{Declares, IsSitePiece}
-use Rattle.instrumentation_laws.specs.PrologueTotals.{AreDeclared, AreCellPieces}
+use Rattle.instrumentation_laws.specs.Pieces.{Declares, Piece, IsSitePiece}
+use Rattle.instrumentation_laws.specs.PrologueTotals.{AreDeclared, AreCellPieces, AreGoing}
 
 -- The text: prologue, begin, instrumented body. A piece for the cells of each array, by its number and extents, and one for each assignment, by its number.
 abbrev pub text : List (Word × PlainExprs) → (ℕ → PlainExprs → List PlainStmt) → (Word → ℕ) → (ℕ → List PlainStmt) → PlainStmts → List PlainStmt
@@ -21,7 +21,18 @@ text decls cells number pieces body = prologue_text cells 0 decls ++ (begin ∷ 
 abbrev pub scope_of : List Array → List Word → Option Upset → Scope
 scope_of arrays wides fault = record { arrays = arrays; wides = wides; fault = fault }
 
--- a source without irregular subscripts, its arrays as they are declared, and pieces that count
+-- a source without irregular subscripts, its arrays as they are declared, and pieces that go on, whatever they count
+pub record GoingSetting (arrays : List Array) (number : Word → ℕ) (wides : List Word) (fault : Option Upset) (vs : Vars) (extents : ℕ → List ℤ) (decls : List (Word × PlainExprs))
+    (body : PlainStmts) (cells : ℕ → PlainExprs → List PlainStmt) (pieces : ℕ → List PlainStmt) : Type 0 where
+  pub names : Declares arrays number wides
+  pub vars : AllMayLoop vs
+  pub declared : AreDeclared arrays number vs extents 0 decls
+  pub sizes : (x : Word) (a : IsArray arrays number x) → a.array.1.extents ≡ extents a.array.0
+  pub source : AreSource arrays number body vs
+  pub pieces_go : (k : ℕ) → Piece (scope_of arrays wides fault) (pieces k)
+  pub cells_go : AreGoing (scope_of arrays wides fault) cells 0 decls
+
+-- the same with pieces that count
 pub record Setting (arrays : List Array) (number : Word → ℕ) (wides : List Word) (fault : Option Upset) (vs : Vars) (extents : ℕ → List ℤ) (decls : List (Word × PlainExprs))
     (body : PlainStmts) (cells : ℕ → PlainExprs → List PlainStmt) (pieces : ℕ → List PlainStmt) : Type 0 where
   pub names : Declares arrays number wides

@@ -14,7 +14,7 @@ use Rattle.run_laws.specs.Logs.{accesses_in, values_in}
 use Rattle.instrumentation.specs.Names.{use_total, definition_total}
 use Rattle.instrumentation_laws.specs.OwnNames.{own}
 use Rattle.instrumentation_laws.specs.AccessList.{tagged_all}
-use Rattle.instrumentation_laws.specs.Setting.{text, scope_of, Setting, IsStart}
+use Rattle.instrumentation_laws.specs.Setting.{text, scope_of, GoingSetting, Setting, IsStart}
 
 -- where a text goes on to its end: its accesses are the source's list and lie within their extents, their values follow the memory, which they leave as it is, and the totals are those of the list and these values
 pub record EndsWith (fault : Option Upset) (inputs : Memory) (extents : ℕ → List ℤ) (list : List Access) (n : ℕ) (t : State) : Type 0 where
@@ -86,6 +86,6 @@ EndAlike (ends e s) (goes_on b u) = ⊥
 abbrev pub EveryTextFollows : Type 0
 EveryTextFollows = (arrays : List Array) (number : Word → ℕ) (wides : List Word) (fault : Option Upset) (vs : Vars) (extents : ℕ → List ℤ) (decls : List (Word × PlainExprs))
     (body : PlainStmts) (cells : ℕ → PlainExprs → List PlainStmt) (pieces : ℕ → List PlainStmt) (s u : State) →
-    Setting arrays number wides fault vs extents decls body cells pieces → IsStart u →
+    GoingSetting arrays number wides fault vs extents decls body cells pieces → IsStart u →
     s.begun ≡ true → s.accesses ≡ [] → u.memory ≡ s.memory → ((x : Word) → own x ≡ true → u.words x ≡ s.words x) →
     EndAlike (exec_all (scope_of arrays [] fault) body vs s) (exec_all (scope_of arrays wides fault) (stmts_of (text decls cells number pieces body)) vs u)

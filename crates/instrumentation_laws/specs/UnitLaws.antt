@@ -7,14 +7,14 @@ use Rattle.c_tree.specs.Accesses.{Access, Clean}
 use Rattle.c_tree.specs.Fault.{Fault, Upset, upset_of, Exposed}
 use Rattle.c_tree.specs.Instances.{core, accesses, source_output, literal_of}
 use Rattle.c_tree.specs.Inputs.{PlainInputs, arrays_for, memory_for, IsSound}
-use Rattle.c_tree.specs.Run.{End, plain, balanced, fault as faulty, judged, Ended, is_printed, Reports, run_from, run}
+use Rattle.c_tree.specs.Run.{End, plain, balanced, fault as faulty, outside, judged, Ended, is_printed, Reports, run_from, run}
 use Rattle.balance_laws.specs.Totals as totals
 use Rattle.run_laws.specs.Laws.{IsSourceFor}
 use Rattle.run_laws.specs.Logs.{accesses_in, values_in}
 use Rattle.instrumentation.specs.Body.{instrument_all}
 use Rattle.instrumentation.specs.Prologue.{prologue_text}
 use Rattle.instrumentation_laws.specs.OwnNames.{own}
-use Rattle.instrumentation_laws.specs.Setting.{Setting}
+use Rattle.instrumentation_laws.specs.Setting.{GoingSetting, Setting}
 use Rattle.instrumentation_laws.specs.WordValues.{AllAssignWords}
 
 -- t is an instrumented unit of the source u: its parameters and scalars, the prologue, the instrumented body and the verdict
@@ -26,7 +26,12 @@ pub record IsInstrumented (u t : PlainUnit) (number : Word → ℕ) (decls : Lis
   pub words : (x : Word) → own x ≡ true → literal_of t.words x ≡ literal_of u.words x
   pub body : t.body ≡ stmts_of (prologue_text cells 0 decls ++ (begin ∷ (instrument_all number pieces 0 u.body ++ verdict ∷ [])))
 
--- and for these parameters and under this fault its pieces count, those of all arrays being in the prologue
+-- and for these parameters and under this fault its pieces go on,
+pub record IsGoing (u t : PlainUnit) (ns : List ℤ) (fault : Option Upset) (number : Word → ℕ) (decls : List (Word × PlainExprs)) (cells : ℕ → PlainExprs → List PlainStmt) (pieces : ℕ → List PlainStmt) : Type 0 where
+  pub text : IsInstrumented u t number decls cells pieces
+  pub setting : GoingSetting (arrays_for u ns) number t.wides fault (vars_of u.params ns) (extents_at (arrays_for u ns)) decls u.body cells pieces
+
+-- or they count as well, those of all arrays being in the prologue
 pub record IsCounted (u t : PlainUnit) (ns : List ℤ) (fault : Option Upset) (number : Word → ℕ) (decls : List (Word × PlainExprs)) (cells : ℕ → PlainExprs → List PlainStmt) (pieces : ℕ → List PlainStmt) : Type 0 where
   pub text : IsInstrumented u t number decls cells pieces
   pub setting : Setting (arrays_for u ns) number t.wides fault (vars_of u.params ns) (extents_at (arrays_for u ns)) decls u.body cells pieces
@@ -57,7 +62,18 @@ pub record RunsAlike (source text : Ended) : Type 0 where
 -- Under every fault the unit makes its source's accesses with the same values, leaves its arrays, and ends as it does.
 abbrev pub EveryUnitFollows : Type 0
 EveryUnitFollows = (u t : PlainUnit) (ns : List ℤ) (m : Memory) (fault : Option Upset) (number : Word → ℕ) (decls : List (Word × PlainExprs)) (cells : ℕ → PlainExprs → List PlainStmt) (pieces : ℕ → List PlainStmt) →
-    IsCounted u t ns fault number decls cells pieces → RunsAlike (run_from u ns m fault) (run_from t ns m fault)
+    IsGoing u t ns fault number decls cells pieces → RunsAlike (run_from u ns m fault) (run_from t ns m fault)
+
+-- both end outside the same array
+pub record EndOutside (source text : Ended) : Type 0 where
+  pub array : ℕ
+  pub source_ends : source.verdict ≡ outside array
+  pub text_ends : text.verdict ≡ outside array
+
+-- So they do, under every fault, where the source leaves its arrays.
+abbrev pub EveryUnitLeaves : Type 0
+EveryUnitLeaves = (u t : PlainUnit) (ns : List ℤ) (m : Memory) (fault : Option Upset) (number : Word → ℕ) (decls : List (Word × PlainExprs)) (cells : ℕ → PlainExprs → List PlainStmt) (pieces : ℕ → List PlainStmt) →
+    IsGoing u t ns fault number decls cells pieces → IsSourceFor u ns → ¬ StaysWithin u ns m → EndOutside (run_from u ns m fault) (run_from t ns m fault)
 
 -- ---- within extents, under every fault
 

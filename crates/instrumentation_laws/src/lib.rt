@@ -1,9 +1,9 @@
 //! Laws of instrumented texts: what they do for every source without irregular subscripts, whatever their pieces are, as long as these count.
 #![tactic(auto)]
 
-ghost use Rattle.instrumentation_laws.specs.RegularUnits.{GuardedIsInstrumented, RegularUnitsAreCounted};
+ghost use Rattle.instrumentation_laws.specs.RegularUnits.{GuardedIsInstrumented, RegularUnitsAreCounted, RegularUnitsGoOn};
 ghost use Rattle.instrumentation_laws.specs.TextLaws.{EveryTextBalances, EveryTextEnds, EveryTextFollows, EveryTextTells};
-ghost use Rattle.instrumentation_laws.specs.UnitLaws.{EveryRunBalances, EveryRunTells, EveryUnitBalances, EveryUnitFollows, EveryUnitTells, EveryUnitTotals};
+ghost use Rattle.instrumentation_laws.specs.UnitLaws.{EveryRunBalances, EveryRunTells, EveryUnitBalances, EveryUnitFollows, EveryUnitLeaves, EveryUnitTells, EveryUnitTotals};
 
 /// Under every fault a text goes on to its end, where its source's accesses lie within their extents: it made these, and its totals are those of them and their values.
 pub fn every_text_ends()
@@ -32,10 +32,11 @@ pub fn every_text_tells()
     every_text_ends();
 }
 
-/// Under every fault a whole instrumented unit makes its source's accesses with the same values, leaves the same arrays and ends as its source does;
-/// where the source stays within its arrays, its totals are those of the accesses and their values, and decide the verdict.
+/// Under every fault a whole instrumented unit makes its source's accesses with the same values, leaves the same arrays and ends as its source does, whatever its pieces count;
+/// where the source leaves its arrays, both end outside the same one. Where it stays within them, the unit's totals are those of the accesses and their values, and decide the verdict.
 pub fn every_unit_follows()
     ensures follows { EveryUnitFollows }
+    ensures leaves { EveryUnitLeaves }
     ensures totals { EveryUnitTotals }
 {}
 
@@ -60,5 +61,6 @@ pub fn every_unit_tells()
 /// The instrumented unit of a source without irregular subscripts has right names and numbers by itself, and the unit with counting passes is one.
 pub fn regular_units_are_counted()
     ensures counted { RegularUnitsAreCounted }
+    ensures go_on { RegularUnitsGoOn }
     ensures guarded { GuardedIsInstrumented }
 {}

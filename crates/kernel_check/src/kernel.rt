@@ -1,8 +1,8 @@
 //! Units that were checked.
 
-ghost use Rattle.std.specs.Prelude.{◌≡◌, ◌⊎◌, ◌<◌, IfErr, IfOk, IfSome, OnOk, None, Some, length, map, slice_get};
+ghost use Rattle.std.specs.Prelude.{◌≡◌, ◌⊎◌, ◌<◌, IfErr, IfOk, IfSome, MatchOption, OnOk, None, Some, length, map, slice_get};
 ghost use Rattle.c_tree.specs.Names.{arrays_in};
-ghost use Rattle.c_tree.specs.Trees.{param, unit as tree, word};
+ghost use Rattle.c_tree.specs.Trees.{param, unit as tree};
 ghost use Rattle.c_tree.specs.declared.refusal.Refusal.{Refusal};
 ghost use Rattle.acceptance.specs.Items.{lowest};
 ghost use Rattle.acceptance.specs.Sources.{judged, IsAcceptedSource};
@@ -54,7 +54,9 @@ impl Kernel {
 
 /// The name of the array of this number.
 fn array_at(params: &[Param], array: usize) -> Option<&Name>
-    ensures { map (λ name. word name.now) result ≡ slice_get (arrays_in (map param params.now)) array }
+    ensures { MatchOption result
+        (slice_get (arrays_in (map param params.now)) array ≡ None)
+        (λ name. slice_get (arrays_in (map param params.now)) array ≡ Some name.now.bytes) }
 {
     let mut left = array;
     for p in params {

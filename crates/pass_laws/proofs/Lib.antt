@@ -17,4 +17,7 @@ pub mod Writes
 pub mod Cells
 pub mod Pieces
 pub mod Sample
+pub mod Steady
 pub mod SourceTurns
+pub mod Tables
+pub mod Ready

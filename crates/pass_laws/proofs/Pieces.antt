@@ -18,16 +18,16 @@ use Rattle.instrumentation.specs.Guarded.{arrays_with_extents, array_names, tota
 use Rattle.instrumentation_laws.specs.OwnNames.{piece_word}
 use Rattle.instrumentation_laws.specs.AccessList.{tagged_all}
 use Rattle.instrumentation_laws.specs.Pieces.{Piece}
-use Rattle.instrumentation_laws.specs.PrologueTotals.{coordinate_vars, AreCellPieces}
-use Rattle.instrumentation_laws.specs.RegularUnits.{number_for, wides_for, RegularUnitsAreCounted, GuardedIsInstrumented}
+use Rattle.instrumentation_laws.specs.PrologueTotals.{coordinate_vars, AreCellPieces, AreGoing}
+use Rattle.instrumentation_laws.specs.RegularUnits.{number_for, wides_for, RegularUnitsAreCounted, RegularUnitsGoOn, GuardedIsInstrumented}
 use Rattle.instrumentation_laws.specs.Setting.{scope_of}
 use Rattle.instrumentation_laws.proofs.Names.{apart_as}
 use Rattle.instrumentation_laws.proofs.Declared.{count_in}
 use Rattle.instrumentation_laws.proofs.CoreList.{tagged_all_is}
-use Rattle.pass_laws.specs.Countable.{rank}
+use Rattle.pass_laws.specs.Countable.{AreCountable, rank}
 use Rattle.pass_laws.specs.Going.{GoesTo, HasCounters, Leaves}
 use Rattle.pass_laws.specs.Places.{IsPlace}
-use Rattle.pass_laws.specs.Laws.{PassesGoOn, PassesTurn, WritesArePlaces, CellsArePlaces, ArePieces, PassesCount, PassesCountInstances, HaveRanks, UnitsHavePieces, UnitsAreCounted}
+use Rattle.pass_laws.specs.Laws.{PassesGoOn, PassesTurn, WritesArePlaces, CellsArePlaces, ArePieces, PassesCount, PassesCountInstances, HaveRanks, UnitsHavePieces, UnitsAreCounted, UnitsGoOn}
 use Rattle.pass_laws.proofs.Going.{must_weaker, must_is, state_of}
 use Rattle.pass_laws.proofs.Quiet.{AreQuiet, Kept, quiet_all}
 use Rattle.pass_laws.proofs.QuietPasses.{pass_quiet, site_quiet, cell_quiet}
@@ -162,3 +162,18 @@ pub units_are_counted : RegularUnitsAreCounted → GuardedIsInstrumented → Uni
 units_are_counted right_names is_text u ns fault regular countable =
     right_names u (guarded u) ns fault (cell_piece (number_for u) u.body) (piece_at (write_pieces_all (number_for u) u.body 0 u.body)) regular
     (is_text u regular.version regular.no_wides) refl (units_have_pieces u ns fault countable)
+
+-- ---- pieces that go on
+
+cells_go : (sc : Scope) → HasCounters sc.wides → (arrays : List Array) (number : Word → ℕ) (body : PlainStmts) (vs : Vars) → AreCountable arrays number body vs → (a : ℕ) (decls : List (Word × PlainExprs)) → AreGoing sc (cell_piece number body) a decls
+cells_go sc has arrays number body vs countable a [] = tt
+cells_go sc has arrays number body vs countable a (x ∷ more) =
+    (piece_of sc (cell_piece number body a x.1) (quiet_leaves sc has (cell_piece number body a x.1) (cell_quiet arrays number body vs countable a x.1)), cells_go sc has arrays number body vs countable (suc a) more)
+
+pub units_go_on : RegularUnitsGoOn → GuardedIsInstrumented → UnitsGoOn
+units_go_on right_names is_text u ns fault regular countable =
+    let sc : Scope = scope_of (arrays_for u ns) (wides_for u) fault in
+    let pieces : ℕ → List PlainStmt = piece_at (write_pieces_all (number_for u) u.body 0 u.body) in
+    right_names u (guarded u) ns fault (cell_piece (number_for u) u.body) pieces regular (is_text u regular.version regular.no_wides) refl
+    (λ k. piece_of sc (pieces k) (quiet_leaves sc (has_counters u) (pieces k) (site_quiet (arrays_for u ns) (number_for u) u.body (vars_of u.params ns) countable k)))
+    (cells_go sc (has_counters u) (arrays_for u ns) (number_for u) u.body (vars_of u.params ns) countable 0 (arrays_with_extents u.params))

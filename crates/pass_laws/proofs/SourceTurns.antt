@@ -21,146 +21,20 @@ use Rattle.pass_laws.specs.Going.{GoesTo, WhereGoing, Turned}
 use Rattle.pass_laws.specs.Laws.{SourcesTurn, UnitsTurn}
 use Rattle.pass_laws.specs.Turns.{turns, turns_all}
 use Rattle.pass_laws.proofs.Steps.{affine_tests}
+use Rattle.pass_laws.proofs.Steady.{Arrives, Steady, calm_assigned}
 use Rattle.pass_laws.proofs.Turned.{Spun, spun_then, spun_none, spun_turn}
 
--- ---- expressions and assignments make no turn
-
--- a run that makes no turn
-abbrev Calm : {A : Type 0} → Run A → Type 0
-Calm p = (s : State) → WhereGoing (Spun 0 s) (p s)
-
-going_then : {A B : Type 0} (P Q : State → Type 0) (o : Outcome A) (f : A → Run B) → WhereGoing P o → ((a : A) (t : State) → P t → WhereGoing Q (f a t)) → WhereGoing Q (and_then o f)
+pub going_then : {A B : Type 0} (P Q : State → Type 0) (o : Outcome A) (f : A → Run B) → WhereGoing P o → ((a : A) (t : State) → P t → WhereGoing Q (f a t)) → WhereGoing Q (and_then o f)
 going_then P Q (goes_on a t) f p h = h a t p
 going_then P Q (ends e t) f p h = tt
 
-going_weaker : {A : Type 0} (P Q : State → Type 0) (o : Outcome A) → ((t : State) → P t → Q t) → WhereGoing P o → WhereGoing Q o
+pub going_weaker : {A : Type 0} (P Q : State → Type 0) (o : Outcome A) → ((t : State) → P t → Q t) → WhereGoing P o → WhereGoing Q o
 going_weaker P Q (goes_on a t) h p = h t p
 going_weaker P Q (ends e t) h p = tt
 
-calm_then : {A B : Type 0} (p : Run A) (f : A → Run B) → Calm p → ((a : A) → Calm (f a)) → Calm (p >>= f)
-calm_then p f h g s = going_then (Spun 0 s) (Spun 0 s) (p s) f (h s) (λ a t k. going_weaker (Spun 0 t) (Spun 0 s) (f a t) (λ u l. spun_then 0 0 s t u k l) (g a t))
-
-calm_if : {A : Type 0} (b : Bool) (p q : Run A) → Calm p → Calm q → Calm (cond b p q)
-calm_if true p q h g = h
-calm_if false p q h g = g
-
-calm_give : {A : Type 0} (f : State → A) → Calm (λ s. goes_on (f s) s)
-calm_give f s = spun_none s
-
--- a memory or a log alone is changed
-spun_memory : (m : Memory) (s : State) → Spun 0 s (record s { memory = m })
-spun_memory m s = record { begun = refl; turned = record { body = (spun_none s).turned.body; prologue = (spun_none s).turned.prologue } }
-
-spun_log : (l : List Event) (s : State) → Spun 0 s (record s { accesses = l })
-spun_log l s = record { begun = refl; turned = record { body = (spun_none s).turned.body; prologue = (spun_none s).turned.prologue } }
-
-spun_struck : (fault : Option Upset) (s : State) → Spun 0 s (struck fault s)
-spun_struck fault s = let k : (m : Memory) × (struck fault s ≡ record s { memory = m }) = struck_is fault s in subst (Spun 0 s) (sym k.1) (spun_memory k.0 s)
-
-spun_logged : (a : ℕ) (cs : List ℤ) (w : Bool) (n : ℕ) (s : State) → Spun 0 s (logged a cs w n s)
-spun_logged a cs w n s = let k : (l : List Event) × (logged a cs w n s ≡ record s { accesses = l }) = logged_is a cs w n s in subst (Spun 0 s) (sym k.1) (spun_log k.0 s)
-
-calm_loads : (sc : Scope) (a : ℕ) (cs : List ℤ) → Calm (loads sc a cs)
-calm_loads sc a cs s = let t : State = struck sc.fault s in spun_then 0 0 s t _ (spun_struck sc.fault s) (spun_logged a cs false (t.memory a cs) t)
-
-calm_stores : (sc : Scope) (a : ℕ) (cs : List ℤ) (n : ℕ) → Calm (stores sc a cs n)
-calm_stores sc a cs n s =
-    let t : State = struck sc.fault s in
-    let u : State = record t { memory = stored t.memory a cs n } in
-    spun_then 0 0 s u _ (spun_then 0 0 s t u (spun_struck sc.fault s) (spun_memory (stored t.memory a cs n) t)) (spun_logged a cs true n u)
-
-calm_within : {A : Type 0} (a : ℕ × Array) (cs : List ℤ) (go : ℕ → List ℤ → Run A) → Calm (go a.0 cs) → Calm (within a cs go)
-calm_within a cs go h = calm_if (is_within cs a.1.extents) (go a.0 cs) (λ s. ends (outside a.0) s) h (λ s. tt)
-
-calm_by_array : {A : Type 0} (o : Option (ℕ × Array)) (f : ℕ × Array → Run A) (t : Run A) → ((a : ℕ × Array) → Calm (f a)) → Calm t → Calm (by_array o f t)
-calm_by_array None f t h g = g
-calm_by_array (Some a) f t h g = h a
-
-calm_two : (p q : Run ℕ) (f : ℕ → ℕ → ℕ) → Calm p → Calm q → Calm (p >>= (λ x. q >>= (λ y. give (f x y))))
-calm_two p q f h g = calm_then p (λ x. q >>= (λ y. give (f x y))) h (λ x. calm_then q (λ y. give (f x y)) g (λ y. calm_give (λ s. f x y)))
-
-mutual
-  calm_word : (sc : Scope) (e : PlainExpr) (vs : Vars) → Calm (word sc e vs)
-  calm_word sc (lit n) vs = calm_give {A = ℕ} (λ s. n)
-  calm_word sc (var x) vs = calm_give (λ s. s.words x)
-  calm_word sc (cell x at) vs = calm_by_array (array_named sc.arrays x) (λ a. coordinates sc at vs >>= (λ cs. within a cs (loads sc))) (first_word sc at vs >>= (λ i. run.reads (λ s. slice_index (s.tables x) i)))
-      (λ a. calm_then (coordinates sc at vs) (λ cs. within a cs (loads sc)) (calm_coordinates sc at vs) (λ cs. calm_within a cs (loads sc) (calm_loads sc a.0 cs)))
-      (calm_then (first_word sc at vs) (λ i. run.reads (λ s. slice_index (s.tables x) i)) (calm_first sc at vs) (λ i. calm_give (λ s. slice_index (s.tables x) i)))
-  calm_word sc (un op a) vs = calm_then (word sc a vs) (λ x. give (word_un op x)) (calm_word sc a vs) (λ x. calm_give (λ s. word_un op x))
-  calm_word sc (bin op a b) vs = calm_two (word sc a vs) (word sc b vs) (word_bin op) (calm_word sc a vs) (calm_word sc b vs)
-  calm_word sc (cast a) vs = calm_if (is_signed (kind vs a)) (give (as_word (signed a vs))) (word sc a vs) (calm_give (λ s. as_word (signed a vs))) (calm_word sc a vs)
-  calm_word sc (test rel a b) vs = calm_two (word sc a vs) (word sc b vs) (λ x y. as_bit (word_holds rel x y)) (calm_word sc a vs) (calm_word sc b vs)
-  calm_word sc (umin a b) vs = calm_two (word sc a vs) (word sc b vs) (λ x y. if nat_lt x y then x else y) (calm_word sc a vs) (calm_word sc b vs)
-  calm_word sc (umax a b) vs = calm_two (word sc a vs) (word sc b vs) (λ x y. if nat_lt x y then y else x) (calm_word sc a vs) (calm_word sc b vs)
-  calm_word sc (least a b) vs = calm_give {A = ℕ} (λ s. 0)
-  calm_word sc (greatest a b) vs = calm_give {A = ℕ} (λ s. 0)
-  calm_word sc (widen a) vs = calm_give {A = ℕ} (λ s. 0)
-  calm_word sc (big high low) vs = calm_give {A = ℕ} (λ s. 0)
-
-  calm_coordinates : (sc : Scope) (es : PlainExprs) (vs : Vars) → Calm (coordinates sc es vs)
-  calm_coordinates sc no_exprs vs = calm_give {A = List ℤ} (λ s. [])
-  calm_coordinates sc (more_exprs e es) vs =
-      calm_then (if is_word (kind vs e) then word sc e vs >>= (λ n. give (pos n)) else give (signed e vs)) (λ c. coordinates sc es vs >>= (λ cs. give (c ∷ cs)))
-      (calm_if (is_word (kind vs e)) (word sc e vs >>= (λ n. give (pos n))) (give (signed e vs)) (calm_then (word sc e vs) (λ n. give (pos n)) (calm_word sc e vs) (λ n. calm_give (λ s. pos n))) (calm_give (λ s. signed e vs)))
-      (λ c. calm_then (coordinates sc es vs) (λ cs. give (c ∷ cs)) (calm_coordinates sc es vs) (λ cs. calm_give (λ s. c ∷ cs)))
-
-  calm_first : (sc : Scope) (es : PlainExprs) (vs : Vars) → Calm (first_word sc es vs)
-  calm_first sc no_exprs vs = calm_give {A = ℕ} (λ s. 0)
-  calm_first sc (more_exprs e es) vs = calm_word sc e vs
-
-calm_wide : (sc : Scope) (e : PlainExpr) (vs : Vars) → Calm (wide sc e vs)
-calm_wide sc (lit n) vs = calm_give {A = ℕ} (λ s. n)
-calm_wide sc (var x) vs = calm_give (λ s. s.wides x)
-calm_wide sc (cell x at) vs = calm_give {A = ℕ} (λ s. 0)
-calm_wide sc (un op a) vs = calm_give {A = ℕ} (λ s. 0)
-calm_wide sc (bin op a b) vs = calm_two (wide sc a vs) (wide sc b vs) (wide_bin op) (calm_wide sc a vs) (calm_wide sc b vs)
-calm_wide sc (cast a) vs = calm_give {A = ℕ} (λ s. 0)
-calm_wide sc (test rel a b) vs = calm_give {A = ℕ} (λ s. 0)
-calm_wide sc (umin a b) vs = calm_give {A = ℕ} (λ s. 0)
-calm_wide sc (umax a b) vs = calm_give {A = ℕ} (λ s. 0)
-calm_wide sc (least a b) vs = calm_give {A = ℕ} (λ s. 0)
-calm_wide sc (greatest a b) vs = calm_give {A = ℕ} (λ s. 0)
-calm_wide sc (widen a) vs = calm_if (is_signed (kind vs a)) (give (as_wide (signed a vs))) (word sc a vs) (calm_give (λ s. as_wide (signed a vs))) (calm_word sc a vs)
-calm_wide sc (big high low) vs = calm_give {A = ℕ} (λ s. high * 2 ^ 64 + low)
-
-calm_updated : (f : BinOp → ℕ → ℕ → ℕ) (op : Option BinOp) (old new : Run ℕ) → Calm old → Calm new → Calm (updated f op old new)
-calm_updated f None old new h g = g
-calm_updated f (Some op) old new h g = calm_two old new (f op) h g
-
--- words, wide values and tables alone are set
-calm_set : (f : State → State) → ((s : State) → (f s).begun ≡ s.begun) → ((s : State) → (f s).body_turns ≡ s.body_turns) → ((s : State) → (f s).prologue_turns ≡ s.prologue_turns) → Calm (λ s. goes_on (tt {0}) (f s))
-calm_set f b t p s = record { begun = b s; turned = record { body = t s ∙ (spun_none s).turned.body; prologue = p s ∙ (spun_none s).turned.prologue } }
-
-calm_assigned : (sc : Scope) (t : PlainExpr) (op : Option BinOp) (e : PlainExpr) (vs : Vars) → Calm (assigned sc t op e vs)
-calm_assigned sc (var x) op e vs =
-    calm_if (list_any (bytes_eq x) sc.wides) (updated wide_bin op (run.reads (λ s. s.wides x)) (wide sc e vs) >>= set_wide x) (updated word_bin op (run.reads (λ s. s.words x)) (word sc e vs) >>= set_word x)
-    (calm_then (updated wide_bin op (run.reads (λ s. s.wides x)) (wide sc e vs)) (set_wide x) (calm_updated wide_bin op (run.reads (λ s. s.wides x)) (wide sc e vs) (calm_give (λ s. s.wides x)) (calm_wide sc e vs))
-    (λ n. calm_set (λ s. record s { wides = put s.wides x n }) (λ s. refl) (λ s. refl) (λ s. refl)))
-    (calm_then (updated word_bin op (run.reads (λ s. s.words x)) (word sc e vs)) (set_word x) (calm_updated word_bin op (run.reads (λ s. s.words x)) (word sc e vs) (calm_give (λ s. s.words x)) (calm_word sc e vs))
-    (λ n. calm_set (λ s. record s { words = put s.words x n }) (λ s. refl) (λ s. refl) (λ s. refl)))
-calm_assigned sc (cell x at) op e vs =
-    calm_by_array (array_named sc.arrays x)
-    (λ a. coordinates sc at vs >>= (λ cs. updated word_bin op (within a cs (loads sc)) (word sc e vs) >>= (λ n. within a cs (λ k c. stores sc k c n))))
-    (first_word sc at vs >>= (λ i. updated word_bin op (run.reads (λ s. slice_index (s.tables x) i)) (word sc e vs) >>= set_entry x i))
-    (λ a. calm_then (coordinates sc at vs) (λ cs. updated word_bin op (within a cs (loads sc)) (word sc e vs) >>= (λ n. within a cs (λ k c. stores sc k c n))) (calm_coordinates sc at vs)
-    (λ cs. calm_then (updated word_bin op (within a cs (loads sc)) (word sc e vs)) (λ n. within a cs (λ k c. stores sc k c n))
-    (calm_updated word_bin op (within a cs (loads sc)) (word sc e vs) (calm_within a cs (loads sc) (calm_loads sc a.0 cs)) (calm_word sc e vs))
-    (λ n. calm_within a cs (λ k c. stores sc k c n) (calm_stores sc a.0 cs n))))
-    (calm_then (first_word sc at vs) (λ i. updated word_bin op (run.reads (λ s. slice_index (s.tables x) i)) (word sc e vs) >>= set_entry x i) (calm_first sc at vs)
-    (λ i. calm_then (updated word_bin op (run.reads (λ s. slice_index (s.tables x) i)) (word sc e vs)) (set_entry x i)
-    (calm_updated word_bin op (run.reads (λ s. slice_index (s.tables x) i)) (word sc e vs) (calm_give (λ s. slice_index (s.tables x) i)) (calm_word sc e vs))
-    (λ n. calm_set (λ s. record s { tables = put s.tables x (slice_set (s.tables x) i n) }) (λ s. refl) (λ s. refl) (λ s. refl))))
-calm_assigned sc (lit n) op e vs = calm_give (λ s. tt {0})
-calm_assigned sc (un o a) op e vs = calm_give (λ s. tt {0})
-calm_assigned sc (bin o a b) op e vs = calm_give (λ s. tt {0})
-calm_assigned sc (cast a) op e vs = calm_give (λ s. tt {0})
-calm_assigned sc (test rel a b) op e vs = calm_give (λ s. tt {0})
-calm_assigned sc (umin a b) op e vs = calm_give (λ s. tt {0})
-calm_assigned sc (umax a b) op e vs = calm_give (λ s. tt {0})
-calm_assigned sc (least a b) op e vs = calm_give (λ s. tt {0})
-calm_assigned sc (greatest a b) op e vs = calm_give (λ s. tt {0})
-calm_assigned sc (widen a) op e vs = calm_give (λ s. tt {0})
-calm_assigned sc (big high low) op e vs = calm_give (λ s. tt {0})
+pub spun_steady : {A : Type 0} (o : Outcome A) (s : State) → Arrives (Steady s) o → WhereGoing (Spun 0 s) o
+spun_steady (goes_on a t) s h = record { begun = h.begun; turned = record { body = h.body ∙ (spun_none s).turned.body; prologue = h.prologue ∙ (spun_none s).turned.prologue } }
+spun_steady (ends e t) s h = tt
 
 -- ---- statements
 
@@ -195,7 +69,7 @@ module _ (sc : Scope) (arrays : List Array) (number : Word → ℕ) where
     source_turns (choice ts first other) vs h s =
         subst (λ o. WhereGoing (Spun (cond (tests_hold ts vs) (turns_all first vs) (turns_all other vs)) s) (and_then o (λ b. cond b (exec_all sc first vs) (exec_all sc other vs)))) (sym (all_hold_is sc ts vs s (affine_tests ts vs h.0)))
         (chosen_turns (tests_hold ts vs) (turns_all first vs) (turns_all other vs) s (exec_all sc first vs) (exec_all sc other vs) (source_turns_all first vs h.1 s) (source_turns_all other vs h.2 s))
-    source_turns (assign t op e) vs h s = calm_assigned sc t op e vs s
+    source_turns (assign t op e) vs h s = spun_steady (assigned sc t op e vs s) s (calm_assigned sc t op e vs s)
     source_turns (table x len) vs h s = absurd h
     source_turns begin vs h s = absurd h
     source_turns (check x extent a) vs h s = absurd h

@@ -6,8 +6,8 @@ use Rattle.c_tree.specs.Values.{Vars}
 use Rattle.c_tree.specs.Arrays.{Array, Memory, extents_at, vars_of}
 use Rattle.c_tree.specs.Fault.{Upset}
 use Rattle.c_tree.specs.Instances.{Tagged, core_of, literal_of}
-use Rattle.c_tree.specs.Inputs.{PlainInputs, arrays_for, memory_for, IsClean}
-use Rattle.c_tree.specs.Run.{State, Scope, exec_all, turns}
+use Rattle.c_tree.specs.Inputs.{PlainInputs, arrays_for, memory_for, IsClean, IsSound}
+use Rattle.c_tree.specs.Run.{State, Scope, exec_all, turns, run_from}
 use Rattle.run_laws.specs.Sources as exactly
 use Rattle.run_laws.specs.Laws.{IsSourceFor}
 use Rattle.instrumentation.specs.Passes.{Target, pass_text, cell_piece, write_pieces_all, piece_at}
@@ -17,7 +17,7 @@ use Rattle.instrumentation_laws.specs.Pieces.{IsSitePiece}
 use Rattle.instrumentation_laws.specs.PrologueTotals.{coordinate_vars, IsCellPiece}
 use Rattle.instrumentation_laws.specs.RegularSources as regular
 use Rattle.instrumentation_laws.specs.RegularUnits.{number_for, IsRegular, HasPieces}
-use Rattle.instrumentation_laws.specs.UnitLaws.{IsCounted}
+use Rattle.instrumentation_laws.specs.UnitLaws.{IsGoing, IsCounted}
 use Rattle.instrumentation_laws.specs.WordValues.{AllAssignWords}
 use Rattle.pass_laws.specs.Countable.{AreOwn, AllHaveNoCells, AreCountable, rank}
 use Rattle.pass_laws.specs.Going.{GoesTo, WhereGoing, HasCounters, Leaves, Turned}
@@ -102,7 +102,28 @@ abbrev pub UnitsAreCounted : Type 0
 UnitsAreCounted = (u : PlainUnit) (ns : List ℤ) (fault : Option Upset) → IsRegular u ns → IsCountableUnit u ns →
     IsCounted u (guarded u) ns fault (number_for u) (arrays_with_extents u.params) (cell_piece (number_for u) u.body) (piece_at (write_pieces_all (number_for u) u.body 0 u.body))
 
--- whatever the laws of instrumented units ask of a source, of its inputs and of its passes
+-- Whatever they count they go on, so under every fault it is an instrumented unit whose pieces go on.
+abbrev pub UnitsGoOn : Type 0
+UnitsGoOn = (u : PlainUnit) (ns : List ℤ) (fault : Option Upset) → IsRegular u ns → AreCountable (arrays_for u ns) (number_for u) u.body (vars_of u.params ns) →
+    IsGoing u (guarded u) ns fault (number_for u) (arrays_with_extents u.params) (cell_piece (number_for u) u.body) (piece_at (write_pieces_all (number_for u) u.body 0 u.body))
+
+-- Under every fault, and from every memory, it makes no table.
+abbrev pub UnitsMakeNoTable : Type 0
+UnitsMakeNoTable = (u : PlainUnit) (ns : List ℤ) (m : Memory) (fault : Option Upset) → (run_from (guarded u) ns m fault).tables ≡ []
+
+-- ---- what is asked of a source
+
+-- what the laws of instrumented units ask of a source, whatever its accesses are
+pub record HasForms (u : PlainUnit) (i : PlainInputs) : Type 0 where
+  pub source : IsSourceFor u i.ints
+  pub regular : IsRegular u i.ints
+  pub own_params : AreOwn (vars_of u.params i.ints)
+  pub countable : AreCountable (arrays_for u i.ints) (number_for u) u.body (vars_of u.params i.ints)
+  pub ranks : HaveRanks (arrays_with_extents u.params)
+  pub literals : (x : Word) → literal_of u.words x < 2 ^ 64
+  pub values : AllAssignWords u.body (vars_of u.params i.ints)
+
+-- whatever they ask of it, of its inputs and of its passes
 pub record IsReady (u : PlainUnit) (i : PlainInputs) : Type 0 where
   pub source : IsSourceFor u i.ints
   pub regular : IsRegular u i.ints
@@ -113,3 +134,7 @@ pub record IsReady (u : PlainUnit) (i : PlainInputs) : Type 0 where
       IsCounted u (guarded u) i.ints fault (number_for u) (arrays_with_extents u.params) (cell_piece (number_for u) u.body) (piece_at (write_pieces_all (number_for u) u.body 0 u.body))
   pub literals : (x : Word) → literal_of u.words x < 2 ^ 64
   pub values : AllAssignWords u.body (vars_of u.params i.ints)
+
+-- For sound inputs the first gives the second.
+abbrev pub FormsAreReady : Type 0
+FormsAreReady = (u : PlainUnit) (i : PlainInputs) → HasForms u i → IsSound u i → IsReady u i

@@ -2,7 +2,7 @@
 //! The laws stand on the run's definitions and on what the laws of instrumented texts ask of a piece.
 #![tactic(auto)]
 
-ghost use Rattle.pass_laws.specs.Laws.{CellsArePlaces, PassesCount, PassesCountInstances, PassesGoOn, PassesTurn, SourcesTurn, UnitsAreCounted, UnitsHavePieces, UnitsTurn, WritesArePlaces};
+ghost use Rattle.pass_laws.specs.Laws.{CellsArePlaces, FormsAreReady, PassesCount, PassesCountInstances, PassesGoOn, PassesTurn, SourcesTurn, UnitsAreCounted, UnitsGoOn, UnitsHavePieces, UnitsMakeNoTable, UnitsTurn, WritesArePlaces};
 
 /// From every state a pass goes on, makes no access, and sets its own two words and the count alone; at its place it makes as many turns as the source.
 pub fn passes_go_on()
@@ -12,8 +12,10 @@ pub fn passes_go_on()
     ensures at_cells { CellsArePlaces }
     ensures source_turns { SourcesTurn }
     ensures unit_turns { UnitsTurn }
+    ensures units { UnitsGoOn }
 {
     run_laws::sources_follow_their_memory();
+    instrumentation_laws::regular_units_are_counted();
 }
 
 /// The piece of each assignment sets the count to the uses of the write that is made, and the piece of an array to those of the initial cell.
@@ -24,4 +26,17 @@ pub fn passes_count()
     ensures units { UnitsAreCounted }
 {
     instrumentation_laws::regular_units_are_counted();
+}
+
+/// The unit with counting passes makes no table, wherever its run ends.
+pub fn passes_make_no_table()
+    ensures { UnitsMakeNoTable }
+{}
+
+/// A source with these forms has, for sound inputs, whatever the laws of instrumented units ask of it and of its pieces.
+pub fn forms_are_ready()
+    ensures { FormsAreReady }
+{
+    passes_go_on();
+    passes_count();
 }

@@ -2,31 +2,23 @@
 use Rattle.std.proofs.Common.{◌≡◌, ◌<◌, ◌^◌, true, List, [], ◌++◌, length, ℤ, sym, ap, subst, arith, append-nil, Option}
 use Rattle.std.specs.List.{AllByRecursion, list_all}
 use Rattle.std.proofs.lemmas.Bool.{not-false}
-use Rattle.std.proofs.lemmas.List.{length-map}
 use Rattle.c_tree.specs.Plain.{PlainUnit}
 use Rattle.c_tree.specs.Values.{Vars}
 use Rattle.c_tree.specs.Arrays.{vars_of}
-use Rattle.c_tree.specs.Instances.{Tagged, untagged, core_of, accesses}
-use Rattle.c_tree.specs.Inputs.{PlainInputs, arrays_for, memory_for, AreInRange, Fit, IsSound}
-use Rattle.c_tree.specs.Fault.{Fault, upset_of}
-use Rattle.c_tree.specs.Run.{run}
-use Rattle.instrumentation.specs.Guarded.{guarded}
-use Rattle.instrumentation_laws.specs.UnitLaws.{EveryUnitFollows, RunsAlike}
+use Rattle.c_tree.specs.Inputs.{PlainInputs, arrays_for, AreInRange, Fit}
 use Rattle.run_laws.specs.Sources as exactly
 use Rattle.run_laws.specs.Sources.{IsExact}
 use Rattle.run_laws.specs.Laws.{IsSourceFor}
-use Rattle.instrumentation_laws.specs.AccessList.{tagged_all}
 use Rattle.instrumentation_laws.specs.RegularUnits.{number_for}
 use Rattle.instrumentation_laws.specs.RegularSources as regular
 use Rattle.pass_laws.specs.Countable as countable
-use Rattle.instrumentation_laws.proofs.CoreList.{tagged_all_is}
-use Rattle.pass_laws.specs.Laws.{IsCountableUnit, UnitsTurn, UnitsAreCounted, IsReady}
 use Rattle.acceptance.specs.Affine.{is_affine, holds_throughout, is_narrow}
 use Rattle.acceptance.specs.Head.{extents_in, intervals_of, head_scope}
 use Rattle.acceptance.specs.Trees.{IsSourceTree}
 use Rattle.acceptance.specs.Sources.{IsAcceptedSource, all_are_regular}
 use Rattle.source_laws.specs.Exact.{AreExactStmts, IsExactFor}
-use Rattle.source_laws.specs.Laws.{IsRegularSource, HasForms}
+use Rattle.pass_laws.specs.Laws.{HasForms}
+use Rattle.source_laws.specs.Laws.{IsRegularSource}
 use Rattle.accepted_laws.proofs.Clear.{Unrefused, unrefused}
 use Rattle.source_laws.proofs.Statements.{stmts_both}
 use Rattle.source_laws.proofs.Values.{IsPlace}
@@ -89,41 +81,5 @@ have_forms u i a fit =
       values = all_assign_words u.body (vars_of u.params i.ints) t.body;
     }
 
--- the list of its accesses, and that passes can count it where there are few
-list_is : (u : PlainUnit) (i : PlainInputs) → IsRegularSource u → HasForms u i →
-    tagged_all (number_for u) 0 u.body (vars_of u.params i.ints) ≡ core_of (arrays_for u i.ints) (memory_for u i) u.body (vars_of u.params i.ints)
-list_is u i a h = tagged_all_is (arrays_for u i.ints) (number_for u) u.wides (memory_for u i) u.body 0 (vars_of u.params i.ints) h.regular.body h.source.1
-
-countable_unit : (u : PlainUnit) (i : PlainInputs) → IsRegularSource u → HasForms u i → length (accesses u i.ints (memory_for u i)) < 2 ^ 63 → IsCountableUnit u i.ints
-countable_unit u i a h made =
-    let core : List Tagged = core_of (arrays_for u i.ints) (memory_for u i) u.body (vars_of u.params i.ints) in
-    let bound : length (untagged core ++ []) < 2 ^ 63 = made in
-    let x : length (untagged core ++ []) ≡ length (untagged core) = ap length (append-nil (untagged core)) in
-    let y : length (untagged core) ≡ length core = length-map core (λ (t : Tagged). t.access) in
-    let z : length (tagged_all (number_for u) 0 u.body (vars_of u.params i.ints)) ≡ length core = ap length (list_is u i a h) in
-    record { params = h.own_params; body = h.countable; ranks = h.ranks; few = omega arith }
-
 pub are_sources : (u : PlainUnit) (i : PlainInputs) → IsRegularSource u → Fit u i → IsSourceFor u i.ints
 are_sources u i a fit = (have_forms u i a fit).source
-
-pub are_ready : UnitsTurn → UnitsAreCounted → (u : PlainUnit) (i : PlainInputs) → IsRegularSource u → IsSound u i → IsReady u i
-are_ready turn are_counted u i a sound =
-    let h : HasForms u i = have_forms u i a sound.fit in
-    let is_countable : IsCountableUnit u i.ints = countable_unit u i a h sound.few in
-    record {
-      source = h.source;
-      regular = h.regular;
-      countable = is_countable;
-      list = list_is u i a h;
-      turns_are = turn u i h.countable h.source sound.clean;
-      counted = λ fault. are_counted u i.ints fault h.regular is_countable;
-      literals = h.literals;
-      values = h.values;
-    }
-
-pub run_alike : EveryUnitFollows → UnitsAreCounted → (u : PlainUnit) (i : PlainInputs) (fault : Option Fault) → IsRegularSource u → Fit u i → length (accesses u i.ints (memory_for u i)) < 2 ^ 63 →
-    RunsAlike (run u i fault) (run (guarded u) i fault)
-run_alike follows are_counted u i fault a fit few =
-    let h : HasForms u i = have_forms u i a fit in
-    let upset = upset_of (arrays_for u i.ints) fault in
-    follows u (guarded u) i.ints (memory_for u i) upset _ _ _ _ (are_counted u i.ints upset h.regular (countable_unit u i a h few))

