@@ -1,6 +1,1 @@
-pub mod Lists
-pub mod PieceCounts
-pub mod RegisterWords
-pub mod SameCell
-pub mod Small
 pub mod Made

@@ -1,14 +1,6 @@
-//! Builds the instrumented unit of a source.
+//! Builds the instrumented unit of a kernel's source, and says what it is worth.
 #![tactic(auto)]
 
-mod body;
-mod counts;
-mod guarded;
-mod loops;
-mod names;
-mod passes;
-mod pieces;
-mod prologue;
-mod statements;
+mod unit;
 
-pub use guarded::instrument_one;
+pub use unit::{Options, instrument};

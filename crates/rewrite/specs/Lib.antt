@@ -1,6 +1,0 @@
-pub mod Around
-pub mod Built
-pub mod Counted
-pub mod Numbered
-pub mod Weight
-pub mod Words

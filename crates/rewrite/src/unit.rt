@@ -1,0 +1,46 @@
+//! The instrumented unit of a kernel's source.
+
+ghost use Rattle.std.specs.Prelude.{◌≡◌, false, IfOk};
+ghost use Rattle.c_tree.specs.Trees.{unit};
+ghost use Rattle.acceptance.specs.Printed.{IsAcceptedPrinted, StoresNothingBefore};
+ghost use Rattle.acceptance.specs.Runnable.{IsRunnable};
+ghost use Rattle.acceptance.specs.Trees.{IsPrintedTree};
+ghost use Rattle.instrumentation.specs.Guarded.{guarded};
+ghost use Rattle.guard_laws.specs.Guards.{GuardsInDetail};
+ghost use Rattle.source_laws.specs.Laws.{IsRegularSource};
+
+use c_tree::{OutOfMemory, Unit};
+use kernel_check::Kernel;
+use std::alloc::Global;
+
+/// How a source is instrumented.
+#[derive(Clone, Copy)]
+pub struct Options {
+    /// Whether innermost loops are split where their guards change.
+    pub split: bool,
+}
+
+/// The instrumented unit of a source without irregular subscripts, by counting passes and not
+/// split. It fails by memory alone.
+pub fn instrument(alloc: Global, k: &Kernel, o: Options) -> Result<Unit, OutOfMemory>
+    requires regular { IsRegularSource (unit k.now.unit) }
+    requires whole { o.split ≡ false }
+    ensures made { IfOk result (λ made. unit made ≡ guarded (unit k.now.unit)) }
+
+    // As a text: a tree of the grammar, accepted, with no store into an array before it begins.
+    ensures accepted { IfOk result (λ made. IsAcceptedPrinted (unit made)) }
+    ensures tree { IfOk result (λ made. IsPrintedTree (unit made)) }
+    ensures stores { IfOk result (λ made. StoresNothingBefore (unit made)) }
+
+    // The interpreter runs it.
+    ensures runs { IfOk result (λ made. IsRunnable (unit made)) }
+
+    // What its runs are, beside those of the source.
+    ensures guards { IfOk result (λ made. GuardsInDetail (unit k.now.unit) (unit made)) }
+{
+    let Options { split: _ } = o;
+    source_laws::accepted_sources_are_printed();
+    source_laws::accepted_sources_are_guarded();
+    unit_builder::accepted_sources_are_small();
+    unit_builder::instrumented_unit(alloc, k.unit())
+}

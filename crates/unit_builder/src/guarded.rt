@@ -1,0 +1,117 @@
+//! The whole instrumented unit of a source, by counting passes.
+
+ghost use Rattle.std.specs.Prelude.{◌≡◌, ◌<◌, ◌^◌, ◌++◌, ◌∷◌, IfOk, OnOk, map};
+ghost use Rattle.c_tree.specs.Trees.{param, stmt, stmts, unit, word};
+ghost use Rattle.c_tree.specs.Instances.{sites_all};
+ghost use Rattle.instrumentation.specs.Body.{instrument_all};
+ghost use Rattle.instrumentation.specs.Guarded as guarded;
+ghost use Rattle.instrumentation.specs.Names as names;
+ghost use Rattle.instrumentation.specs.Passes.{piece_at, write_pieces_all};
+ghost use Rattle.unit_builder.specs.Numbered.{numbers};
+ghost use Rattle.unit_builder.specs.Words.{plain_words};
+ghost use Rattle.unit_builder.specs.Small.{IsSmall};
+
+use crate::body::instrumented;
+use crate::counts::count_registers_of_all;
+use crate::names::{
+    active_word, counter_word, definition_total, function_name, register, stored_word, use_count,
+    use_total,
+};
+use crate::pieces::write_pieces;
+use crate::prologue::add_prologue;
+use c_tree::{Copied, NameList, OutOfMemory, Param, Stmt, Stmts, Unit, Words};
+use sqlite_items::Items;
+use std::alloc::Global;
+
+/// Adds the declarations of the words that loads go to.
+fn add_registers(alloc: Global, registers: u64, words: &mut Words) -> Result<(), OutOfMemory>
+    ensures { OnOk result (plain_words words.new
+        ≡ plain_words words.old ++ guarded.register_words 0 registers) }
+{
+    for load in 0..registers {
+        words.push((register(alloc, load)?, 0))?;
+    }
+    Ok(())
+}
+
+/// The words of 64 bits: those of the source, and the text's own, of which so many are for loads.
+fn words(alloc: Global, source: &Words, registers: u64) -> Result<Words, OutOfMemory>
+    ensures { IfOk result (λ made. plain_words made
+        ≡ plain_words source.now ++ guarded.own_words registers) }
+{
+    let mut words = source.copy(alloc)?;
+    add_registers(alloc, registers, &mut words)?;
+    words.push((stored_word(alloc)?, 0))?;
+    words.push((active_word(alloc)?, 0))?;
+    words.push((counter_word(alloc)?, 0))?;
+    Ok(words)
+}
+
+/// The words of 128 bits: the count, and two totals for each array.
+fn wides(alloc: Global, params: &[Param]) -> Result<NameList, OutOfMemory>
+    ensures { IfOk result (λ made. map word made
+        ≡ names.count ∷ guarded.total_names 0 (guarded.array_names (map param params.now))) }
+{
+    let mut wides = Items::new(alloc);
+    wides.push(use_count(alloc)?)?;
+    let mut array = 0;
+    for p in params {
+        if let Param::Array { .. } = p {
+            wides.push(definition_total(alloc, array)?)?;
+            wides.push(use_total(alloc, array)?)?;
+            array += 1;
+        }
+    }
+    Ok(wides)
+}
+
+/// The source's statements, instrumented.
+#[tactic(auto, unfolding(crate::specs::Small::IsSmall))]
+fn guarded_statements(alloc: Global, params: &[Param], whole: &Stmts) -> Result<Stmts, OutOfMemory>
+    requires { IsSmall (stmts whole.now) }
+    ensures { IfOk result (λ made. map stmt made ≡ instrument_all (numbers params.now)
+        (piece_at (write_pieces_all (numbers params.now) (stmts whole.now) 0 (stmts whole.now)))
+        0 (stmts whole.now)) }
+{
+    let pieces = write_pieces(alloc, params, whole)?;
+    instrumented(alloc, params, pieces.as_slice(), 0, whole)
+}
+
+/// The prologue, the instrumented statements and the comparison of all totals.
+#[tactic(auto, unfolding(crate::specs::Numbered::passes_of))]
+fn guarded_text(alloc: Global, params: &[Param], whole: &Stmts) -> Result<Stmts, OutOfMemory>
+    requires { IsSmall (stmts whole.now) }
+    ensures { IfOk result (λ made. map stmt made
+        ≡ guarded.guarded_body (map param params.now) (stmts whole.now)) }
+{
+    let mut text = Items::new(alloc);
+    add_prologue(alloc, params, whole, &mut text)?;
+    text.push(Stmt::Begin)?;
+    text.append(guarded_statements(alloc, params, whole)?)?;
+    text.push(Stmt::Verdict)?;
+    Ok(text)
+}
+
+/// The instrumented unit of a source. It fails by memory alone.
+#[tactic(auto, unfolding(crate::specs::Small::IsSmall))]
+pub fn instrumented_unit(alloc: Global, source: &Unit) -> Result<Unit, OutOfMemory>
+    requires { IsSmall (stmts source.now.body) }
+    ensures { IfOk result (λ made. unit made ≡ guarded.guarded (unit source.now)) }
+{
+    let ranges = source.ranges.copy(alloc)?;
+    let name = function_name(alloc, &source.name)?;
+    let params = source.params.copy(alloc)?;
+    let registers = std::cmp::max(1, count_registers_of_all(&source.body));
+    let words = words(alloc, &source.words, registers)?;
+    let wides = wides(alloc, source.params.as_slice())?;
+    let body = guarded_text(alloc, source.params.as_slice(), &source.body)?;
+    Ok(Unit {
+        version: Some(1),
+        ranges,
+        name,
+        params,
+        words,
+        wides,
+        body,
+    })
+}
