@@ -1,0 +1,9 @@
+//! Counting passes of a kernel's source: each sets the count to the uses of one definition.
+#![tactic(auto)]
+
+mod counting;
+mod numbers;
+mod start;
+
+pub use counting::pass;
+pub use start::Start;
