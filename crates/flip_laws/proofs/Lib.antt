@@ -1,0 +1,2 @@
+pub mod SourceEnds
+pub mod Steps

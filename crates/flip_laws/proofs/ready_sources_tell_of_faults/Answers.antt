@@ -1,0 +1,6 @@
+use Rattle.flip_laws.proofs.Steps.{tells_of_faults}
+use Rattle.flip_laws.proofs.ready_sources_tell_of_faults.Goals as goal
+
+pub returns : goal.returns
+returns c = λ u forms.
+    tells_of_faults c.every_text_ends.ensures c.every_text_follows.ensures c.passes_go_on.ensures.units c.forms_are_ready.ensures c.every_unit_follows.ensures.follows c.every_unit_follows.ensures.totals u forms
