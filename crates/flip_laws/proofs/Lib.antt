@@ -1,2 +1,3 @@
 pub mod SourceEnds
+pub mod Determined
 pub mod Steps

@@ -1,3 +1,4 @@
+use Rattle.flip_laws.proofs.Determined.{same_course}
 use Rattle.flip_laws.proofs.Steps.{tells_of_faults}
 use Rattle.flip_laws.proofs.ready_sources_tell_of_faults.Goals as goal
 
