@@ -1,3 +1,5 @@
 pub mod SourceEnds
 pub mod Determined
+pub mod LeftMemory
+pub mod Unread
 pub mod Steps

@@ -1,15 +1,26 @@
-//! Laws of faults: what the run of an instrumented unit is under each fault.
+//! Laws of faults: what the run of an instrumented unit is under each fault, exposed or not.
 #![tactic(auto)]
 
-ghost use Rattle.flip_laws.specs.FaultyRuns.{ReadyTellOfFaults};
+ghost use Rattle.flip_laws.specs.FaultyRuns.{AcceptedTellOfFaults, ReadyTellOfFaults};
 
-/// Under every fault the instrumented unit of a source that has the forms that passes ask for takes its source's steps, and has the totals of what it read and wrote.
+/// Under every fault the instrumented unit of a source that has the forms that passes ask for takes its source's steps, and has the totals of what this run read and wrote. A fault that isn't exposed shows in nothing but the one bit, where that stays.
 pub fn ready_sources_tell_of_faults()
     ensures { ReadyTellOfFaults }
 {
+    balance_laws::law_of_flips();
+    run_laws::sources_follow_their_memory();
     instrumentation_laws::every_text_ends();
     instrumentation_laws::every_text_follows();
     instrumentation_laws::every_unit_follows();
     pass_laws::passes_go_on();
     pass_laws::forms_are_ready();
+    guard_laws::ready_sources_are_guarded();
+}
+
+/// So does that of every accepted source without irregular subscripts.
+pub fn accepted_sources_tell_of_faults()
+    ensures { AcceptedTellOfFaults }
+{
+    ready_sources_tell_of_faults();
+    source_laws::accepted_sources_follow();
 }
