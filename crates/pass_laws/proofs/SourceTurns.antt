@@ -38,17 +38,17 @@ spun_steady (ends e t) s h = tt
 
 -- ---- statements
 
-spun_on : (n m : ℕ) (s t : State) (o : Outcome (Unit {0})) → Spun n s t → WhereGoing (Spun m t) o → WhereGoing (Spun (n + m) s) o
+pub spun_on : (n m : ℕ) (s t : State) (o : Outcome (Unit {0})) → Spun n s t → WhereGoing (Spun m t) o → WhereGoing (Spun (n + m) s) o
 spun_on n m s t o p = going_weaker (Spun m t) (Spun (n + m) s) o (λ u q. spun_then n m s t u p q)
 
 module _ (sc : Scope) (arrays : List Array) (number : Word → ℕ) where
-  over_turns : (f : ℤ → Run (Unit {0})) (n : ℤ → ℕ) → ((v : ℤ) (s : State) → WhereGoing (Spun (n v) s) (f v s)) → (vals : List ℤ) (s : State) → WhereGoing (Spun (sum_by n vals) s) (over f vals s)
+  pub over_turns : (f : ℤ → Run (Unit {0})) (n : ℤ → ℕ) → ((v : ℤ) (s : State) → WhereGoing (Spun (n v) s) (f v s)) → (vals : List ℤ) (s : State) → WhereGoing (Spun (sum_by n vals) s) (over f vals s)
   over_turns f n h [] s = spun_none s
   over_turns f n h (v ∷ vals) s =
       subst (λ k. WhereGoing (Spun k s) (over f (v ∷ vals) s)) (sym (sum_by-cons n v vals))
       (going_then (Spun (n v) s) (Spun (n v + sum_by n vals) s) (f v s) (λ u. over f vals) (h v s) (λ u t p. spun_on (n v) (sum_by n vals) s t (over f vals t) p (over_turns f n h vals t)))
 
-  body_turn : (body : PlainStmts) (vs : Vars) (n : ℕ) → ((s : State) → WhereGoing (Spun n s) (exec_all sc body vs s)) → (s : State) → WhereGoing (Spun (suc n) s) (and_then (turn s) (λ u. exec_all sc body vs))
+  pub body_turn : (body : PlainStmts) (vs : Vars) (n : ℕ) → ((s : State) → WhereGoing (Spun n s) (exec_all sc body vs s)) → (s : State) → WhereGoing (Spun (suc n) s) (and_then (turn s) (λ u. exec_all sc body vs))
   body_turn body vs n h s =
       subst (λ k. WhereGoing (Spun k s) (and_then (turn s) (λ u. exec_all sc body vs))) (let e : 1 + n ≡ suc n = omega arith in e)
       (going_then (Spun 1 s) (Spun (1 + n) s) (turn s) (λ u. exec_all sc body vs) (gone (turn s) (spun_turn s)) (λ u t p. spun_on 1 n s t (exec_all sc body vs t) p (h t)))
@@ -57,7 +57,7 @@ module _ (sc : Scope) (arrays : List Array) (number : Word → ℕ) where
       gone (goes_on u t) p = p
       gone (ends e t) p = absurd p
 
-  chosen_turns : (b : Bool) (n m : ℕ) (s : State) (p q : Run (Unit {0})) → WhereGoing (Spun n s) (p s) → WhereGoing (Spun m s) (q s) → WhereGoing (Spun (cond b n m) s) (cond b p q s)
+  pub chosen_turns : (b : Bool) (n m : ℕ) (s : State) (p q : Run (Unit {0})) → WhereGoing (Spun n s) (p s) → WhereGoing (Spun m s) (q s) → WhereGoing (Spun (cond b n m) s) (cond b p q s)
   chosen_turns true n m s p q h g = h
   chosen_turns false n m s p q h g = g
 
