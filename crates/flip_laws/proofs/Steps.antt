@@ -14,8 +14,8 @@ use Rattle.instrumentation_laws.specs.UnitLaws.{RunsAlike, HasTotals, EveryUnitF
 use Rattle.pass_laws.specs.Laws.{HasForms, IsReady, FormsAreReady, UnitsGoOn}
 use Rattle.balance_laws.specs.Laws.{HiddenFlip, FlippedMemory}
 use Rattle.run_laws.specs.Laws.{UnitsFollow}
-use Rattle.guard_laws.specs.Guards.{IsFaultIn, IsRead, ReadyAreGuarded}
-use Rattle.flip_laws.specs.FaultyRuns.{TakesSameSteps, ShowsNothing, TellsOfFaults}
+use Rattle.guard_laws.specs.Guards.{IsFaultIn, IsRead, GuardsInDetail, ReadyAreGuarded}
+use Rattle.flip_laws.specs.FaultyRuns.{TakesSameSteps, ShowsNothing, TurnsAlike, TellsOfFaults}
 use Rattle.flip_laws.proofs.SourceEnds.{run_is_body, source_goes}
 use Rattle.flip_laws.proofs.Unread.{same_events, arrays_written, arrays_unwritten}
 
@@ -69,9 +69,18 @@ module _ (text_ends : EveryTextEnds) (text_follows : EveryTextFollows) (go_on : 
         unwritten = λ none. faulty.arrays ∙ arrays_unwritten text_ends text_follows go_on hidden left units u i r sound x unread none;
       }
 
+  turns_alike : (i : PlainInputs) (fault : Option Fault) → IsSound u i → TurnsAlike (run (guarded u) i None) (run (guarded u) i fault)
+  turns_alike i fault sound =
+      let g : GuardsInDetail u (guarded u) = guards u forms in
+      let faulty = g.general i fault sound in
+      let without = g.general i None sound in
+      record { body = faulty.body ∙ sym without.body; prologue = faulty.prologue ∙ sym without.prologue; tables = g.tables i fault sound.fit ∙ sym (g.tables i None sound.fit) }
+
   pub tells_of_faults : TellsOfFaults u (guarded u)
   tells_of_faults = record {
     steps = takes_steps;
     totals = λ i fault sound. (counted_totals i fault sound).totals;
     unread = shows_nothing;
+    turns = turns_alike;
+    detail = guards u forms;
   }

@@ -11,7 +11,7 @@ use Rattle.run_laws.specs.Logs.{accesses_in, values_in}
 use Rattle.instrumentation.specs.Guarded.{guarded}
 use Rattle.instrumentation_laws.specs.UnitLaws.{differing, totals_over}
 use Rattle.pass_laws.specs.Laws.{HasForms}
-use Rattle.guard_laws.specs.Guards.{IsFaultIn, IsRead}
+use Rattle.guard_laws.specs.Guards.{IsFaultIn, IsRead, GuardsInDetail}
 use Rattle.source_laws.specs.Laws.{IsRegularSource}
 
 -- ---- steps
@@ -72,12 +72,27 @@ abbrev pub HidesUnread : PlainUnit → PlainUnit → Type 0
 HidesUnread source unit = (i : PlainInputs) (f : Fault) → IsSound source i → IsFaultIn source i f → ¬ IsRead source i f →
     ShowsNothing source i f (run unit i None) (run unit i (Some f))
 
+-- ---- turns
+
+-- the same turns before the source's statements and in them, and the same tables
+pub record TurnsAlike (without faulty : Ended) : Type 0 where
+  pub body : faulty.body_turns ≡ without.body_turns
+  pub prologue : faulty.prologue_turns ≡ without.prologue_turns
+  pub tables : faulty.tables ≡ without.tables
+
+-- For all sound inputs no fault changes the turns.
+abbrev pub TurnsAsWithout : PlainUnit → PlainUnit → Type 0
+TurnsAsWithout source unit = (i : PlainInputs) (fault : Option Fault) → IsSound source i → TurnsAlike (run unit i None) (run unit i fault)
+
 -- ---- together
 
+-- The unit guards the source, and this is what each of its runs under a fault is.
 pub record TellsOfFaults (source unit : PlainUnit) : Type 0 where
+  pub detail : GuardsInDetail source unit
   pub steps : TakesStepsOfSource source unit
   pub totals : HasTotalsOfRun source unit
   pub unread : HidesUnread source unit
+  pub turns : TurnsAsWithout source unit
 
 -- Each source that has these forms, whatever inputs fit, has such an instrumented unit.
 abbrev pub ReadyTellOfFaults : Type 0
