@@ -2,6 +2,7 @@
 #![tactic(auto)]
 
 ghost use Rattle.flip_laws.specs.FaultyRuns.{AcceptedTellOfFaults, ReadyTellOfFaults};
+ghost use Rattle.flip_laws.specs.Independence.{IndexArraysAreAll, OwnValuesAreNothing, PlacesAreFixed};
 
 /// Under every fault the instrumented unit of a source that has the forms that passes ask for takes its source's steps, and has the totals of what this run read and wrote. A fault that isn't exposed shows in nothing but the one bit, where that stays.
 pub fn ready_sources_tell_of_faults()
@@ -24,3 +25,10 @@ pub fn accepted_sources_tell_of_faults()
     ready_sources_tell_of_faults();
     source_laws::accepted_sources_follow();
 }
+
+/// The instances and the places of a source's accesses depend on its parameters alone, the accesses of an array not on that array's own values, and the whole list on parameters and index arrays alone.
+pub fn control_is_independent()
+    ensures places { PlacesAreFixed }
+    ensures own { OwnValuesAreNothing }
+    ensures list { IndexArraysAreAll }
+{}
