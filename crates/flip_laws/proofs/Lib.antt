@@ -5,3 +5,4 @@ pub mod Unread
 pub mod Steps
 pub mod Views
 pub mod Independent
+pub mod Apart

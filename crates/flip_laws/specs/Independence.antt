@@ -6,6 +6,7 @@ use Rattle.c_tree.specs.Arrays.{Array, Memory, array_named, vars_of}
 use Rattle.c_tree.specs.Inputs.{arrays_for}
 use Rattle.c_tree.specs.Instances.{Tagged, core_of, accesses}
 use Rattle.balance_laws.specs.Laws.{SameFor}
+use Rattle.acceptance.specs.Sources.{IsAcceptedSource}
 
 -- ---- cells and their subscripts
 
@@ -80,3 +81,7 @@ abbrev pub IndexArraysAreAll : Type 0
 IndexArraysAreAll = (u : PlainUnit) (ns : List ℤ) (m n : Memory) →
     ((y : Word) (a : ℕ × Array) (c : List ℤ) → IsIndexArray u.body y → array_named (arrays_for u ns) y ≡ Some a → m a.0 c ≡ n a.0 c) →
     accesses u ns m ≡ accesses u ns n
+
+-- Every accepted source is so, whatever subscripts it has.
+abbrev pub AcceptedAreApart : Type 0
+AcceptedAreApart = (u : PlainUnit) → IsAcceptedSource u → AreApart u.body

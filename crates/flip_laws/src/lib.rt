@@ -2,7 +2,7 @@
 #![tactic(auto)]
 
 ghost use Rattle.flip_laws.specs.FaultyRuns.{AcceptedTellOfFaults, ReadyTellOfFaults};
-ghost use Rattle.flip_laws.specs.Independence.{IndexArraysAreAll, OwnValuesAreNothing, PlacesAreFixed};
+ghost use Rattle.flip_laws.specs.Independence.{AcceptedAreApart, IndexArraysAreAll, OwnValuesAreNothing, PlacesAreFixed};
 
 /// Under every fault the instrumented unit of a source that has the forms that passes ask for takes its source's steps, and has the totals of what this run read and wrote. A fault that isn't exposed shows in nothing but the one bit, where that stays.
 pub fn ready_sources_tell_of_faults()
@@ -31,4 +31,9 @@ pub fn control_is_independent()
     ensures places { PlacesAreFixed }
     ensures own { OwnValuesAreNothing }
     ensures list { IndexArraysAreAll }
+{}
+
+/// No cell of an accepted source, with irregular subscripts or without, is a subscript of its own array.
+pub fn accepted_sources_are_apart()
+    ensures { AcceptedAreApart }
 {}
