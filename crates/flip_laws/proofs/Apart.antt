@@ -1,5 +1,5 @@
 -- No cell of an accepted source is a subscript of its own array.
-use Rattle.std.proofs.Common.{◌≡◌, ◌≢◌, ◌⊎◌, ⊎_elim, ℕ, zero, suc, Bool, true, false, cond, not, ◌&&◌, List, [], ◌∷◌, ◌++◌, refl, sym, ap, ◌∙◌, subst, Option, Some, None, inl, inr}
+use Rattle.std.proofs.Common.{◌≡◌, ◌≢◌, ⊎_elim, ℕ, suc, Bool, true, false, cond, not, ◌&&◌, List, [], ◌∷◌, refl, sym, ◌∙◌, subst, Some, None, inl, inr}
 use Rattle.std.proofs.lemmas.Bool.{and_parts, not-false, not-true, false≢true, true≢false}
 use Rattle.std.proofs.lemmas.Slice.Eq.{bytes_eq-Decides}
 use Rattle.std.specs.Prelude.{bytes_eq}
@@ -9,8 +9,8 @@ use Rattle.acceptance.specs.Items.{Item, Loop, Scope, items, items_all, tables_a
 use Rattle.acceptance.specs.Affine.{has_name, is_affine_un, is_affine_bin, is_affine}
 use Rattle.acceptance.specs.Head.{list_of}
 use Rattle.acceptance.specs.Parts.{has_signed, subscript_holds, subscripts_hold, parts_hold, item_parts_hold, cells_hold}
-use Rattle.acceptance.specs.Sources.{is_const_array, are_indexed, assigned_cells_hold, bad_index_array, judged, refusal, IsAcceptedSource}
-use Rattle.accepted_laws.proofs.Clear.{one_of, Clear, Unrefused, unrefused, all_front, all_back}
+use Rattle.acceptance.specs.Sources.{is_const_array, are_indexed, assigned_cells_hold, bad_index_array, judged, IsAcceptedSource}
+use Rattle.accepted_laws.proofs.Clear.{one_of, Clear, unrefused, all_front, all_back}
 use Rattle.flip_laws.specs.Independence.{StandsIn, StandsAmong, StandsInStmt, StandsInStmts, IsIndexedBy, AreApart}
 
 -- a subscript that is a cell stands among the subscripts

@@ -1,5 +1,5 @@
 -- Two runs of one body that start alike but for the memory, each under its own fault: where no read gives them different words first, they take the same course to the end.
-use Rattle.std.proofs.Common.{◌≡◌, ℕ, suc, ◌+◌, Bool, true, false, cond, not, if◌then◌else◌, nat_eq, nat_lt, List, [], ◌∷◌, ◌++◌, refl, sym, ap, ◌∙◌, subst, append_assoc, ℤ, pos, Option, Some, None}
+use Rattle.std.proofs.Common.{◌≡◌, ℕ, suc, ◌+◌, Bool, true, false, cond, if◌then◌else◌, nat_lt, List, [], ◌∷◌, ◌++◌, refl, sym, ap, ◌∙◌, subst, append_assoc, ℤ, pos, Option, Some, None}
 use Rattle.std.proofs.lemmas.List.{append-nil}
 use Rattle.std.specs.Prelude.{bytes_eq, slice_index, replicate, slice_set}
 use Rattle.std.specs.List.{list_any}
@@ -7,12 +7,11 @@ use Rattle.c_tree.specs.Plain.{Word, PlainExpr, lit, var, cell, un, bin, cast, t
 use Rattle.c_tree.specs.Kinds.{join, is_signed, is_word}
 use Rattle.c_tree.specs.Values.{Vars, signed, as_word, as_wide, word_un, word_bin, wide_bin, signed_holds, word_holds, as_bit, loop_values, kind}
 use Rattle.c_tree.specs.Arrays.{Array, Memory, stored, array_named, is_within}
-use Rattle.c_tree.specs.Accesses.{Access}
 use Rattle.c_tree.specs.Fault.{Upset}
 use Rattle.c_tree.specs.Run.{Event, State, End, index, outside, Outcome, goes_on, ends, Run, ◌>>=◌, ◌>>◌, and_then, give, done, end_as, changes, reads, Scope, put, set_word, set_wide, set_entry, make_table, loads, stores, struck, logged, within, by_array, word, coordinates, first_word, wide, holds, all_hold, updated, assigned, turn, over, disagree, unbalanced, judged, exec, exec_all}
 use Rattle.c_tree.specs.declared.expr.BinOp.{BinOp}
 use Rattle.instrumentation_laws.specs.Setting.{scope_of}
-use Rattle.instrumentation_laws.proofs.Steps.{found, event, log, load_begun, store_begun, struck_is, logged_is}
+use Rattle.instrumentation_laws.proofs.Steps.{found, event, log, load_begun, store_begun, struck_is}
 
 abbrev pub state_of : {A : Type 0} → Outcome A → State
 state_of (goes_on a s) = s

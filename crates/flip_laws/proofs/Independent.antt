@@ -1,17 +1,16 @@
 -- The laws of independence, from what two memories give.
-use Rattle.std.proofs.Common.{◌≡◌, ◌≢◌, ℕ, suc, zero, ◌≤◌, Bool, true, false, cond, ◌==◌, eqb, if◌then◌else◌, List, [], ◌∷◌, map, length, refl, sym, ap, ◌∙◌, subst, arith, ℤ, Option, Some, None, inl, inr, eq-eqb}
-use Rattle.std.proofs.lemmas.Bool.{cases_Bool, eqb-true, false≢true}
+use Rattle.std.proofs.Common.{◌≡◌, ℕ, suc, zero, ◌≤◌, Bool, true, false, cond, ◌==◌, List, [], ◌∷◌, map, length, refl, sym, ap, ◌∙◌, arith, ℤ, Some, None, inl, inr, eq-eqb}
+use Rattle.std.proofs.lemmas.Bool.{eqb-true, false≢true}
 use Rattle.std.proofs.lemmas.List.{append-nil, length-map}
 use Rattle.std.proofs.lemmas.Slice.Eq.{bytes_eq-Decides}
 use Rattle.std.specs.Prelude.{bytes_eq}
-use Rattle.c_tree.specs.Plain.{Word, PlainExprs, PlainStmts, PlainUnit}
+use Rattle.c_tree.specs.Plain.{Word, PlainExprs, PlainUnit}
 use Rattle.c_tree.specs.Values.{Vars}
-use Rattle.c_tree.specs.Arrays.{Array, Memory, array_from, array_named, vars_of}
-use Rattle.c_tree.specs.Accesses.{Access, at, nowhere}
+use Rattle.c_tree.specs.Arrays.{Array, Memory, array_from, vars_of}
+use Rattle.c_tree.specs.Accesses.{Access, at}
 use Rattle.c_tree.specs.Inputs.{arrays_for}
 use Rattle.c_tree.specs.Instances.{Tagged, untagged, core_of, core, accesses}
-use Rattle.balance_laws.specs.Laws.{SameFor}
-use Rattle.flip_laws.specs.Independence.{StandsInStmts, IsIndexedBy, place_of, PlacesAreFixed, OwnValuesAreNothing, IndexArraysAreAll}
+use Rattle.flip_laws.specs.Independence.{StandsInStmts, PlacesAreFixed, OwnValuesAreNothing, IndexArraysAreAll}
 use Rattle.flip_laws.proofs.Views.{View, view, tagged_view, AreSame, core_same, subscripts_same, word_same}
 
 map_twice : {A B C : Type 0} (g : B → C) (f : A → B) (xs : List A) → map g (map f xs) ≡ map (λ x. g (f x)) xs
@@ -110,8 +109,8 @@ own_values_are_nothing u ns a m n apart agree =
     let own : ℕ → Bool = λ b. b == a in
     let arrays : List Array = arrays_for u ns in
     let seen : map (view own) (accesses u ns m) ≡ map (view own) (accesses u ns n) = accesses_seen u ns m n own (λ x at vs stands k named is_own.
-        subscripts_same arrays m n own at vs (λ y indexed c. word_same arrays m n own y c (λ b called.
-        agree b.0 c (λ same. apart x y at stands indexed (same_name 0 arrays x y k b named called (eqb-true _ _ is_own ∙ sym same)))))) in
+    subscripts_same arrays m n own at vs (λ y indexed c. word_same arrays m n own y c (λ b called.
+    agree b.0 c (λ same. apart x y at stands indexed (same_name 0 arrays x y k b named called (eqb-true _ _ is_own ∙ sym same)))))) in
     record {
       long = sym (length-map (accesses u ns m) (view own)) ∙ ap length seen ∙ length-map (accesses u ns n) (view own);
       each = λ q either.

@@ -1,9 +1,9 @@
 -- What a fault leaves of a memory at the end of a list: nothing where its cell is written at the place or later, and one bit inverted else.
-use Rattle.std.proofs.Common.{◌≡◌, ℕ, suc, zero, ◌^◌, ◌<◌, ◌≤◌, Bool, true, false, cond, ◌&&◌, nat_le, nat_lt, eqb, List, [], ◌∷◌, map, length, refl, sym, ap, ◌∙◌, subst, arith, ℤ, Some, None, inl, inr, eq-eqb}
-use Rattle.std.proofs.lemmas.Bool.{cases_Bool, cases_lt, cases_eq, and_parts, and_from, and_left, and_right, eqb-true, cond-true, cond-false, false_from_ne_true, true≢false, le-leb, lt-ltb, lt-leb, le-ltb}
+use Rattle.std.proofs.Common.{◌≡◌, ℕ, suc, zero, ◌^◌, ◌<◌, ◌≤◌, Bool, true, false, cond, ◌&&◌, nat_le, eqb, List, [], ◌∷◌, map, length, refl, sym, ap, ◌∙◌, subst, arith, ℤ, Some, None, inl, inr, eq-eqb}
+use Rattle.std.proofs.lemmas.Bool.{cases_Bool, cases_lt, cases_eq, and_parts, and_from, eqb-true, cond-true, cond-false, false_from_ne_true, true≢false, le-leb, lt-ltb, lt-leb, le-ltb}
 use Rattle.std.specs.Prelude.{bit_xor}
 use Rattle.c_tree.specs.Arrays.{Array, Memory, all_cells, same_cell, words_from}
-use Rattle.c_tree.specs.Accesses.{Access, at, is_of, latest, same_definition}
+use Rattle.c_tree.specs.Accesses.{Access, latest, same_definition}
 use Rattle.c_tree.specs.Fault.{Upset, inverted}
 use Rattle.balance_laws.specs.Replay.{left_after}
 use Rattle.balance_laws.specs.Laws.{FlippedMemory}
@@ -72,15 +72,15 @@ module _ (law : FlippedMemory) (list : List Access) (start : Memory) (values : �
       let later : f.place ≤ w.next = w.later in
       let exists : w.next < n = w.exists in
       let gone : stands a c ≡ false = false_from_ne_true _ (λ h.
-          let o = owner list a f.array n f.place c f.cell h in
-          let stays : latest list f.array f.cell n ≡ latest list f.array f.cell f.place = sym (ap (λ x. latest list x c n) o.0 ∙ ap (λ y. latest list f.array y n) o.1) ∙ same_definition-true _ _ h in
-          true≢false (sym (and_from _ _ w.writes w.of_cell) ∙ no_write list f.array f.cell f.place n w.next stays later exists)) in
+      let o = owner list a f.array n f.place c f.cell h in
+      let stays : latest list f.array f.cell n ≡ latest list f.array f.cell f.place = sym (ap (λ x. latest list x c n) o.0 ∙ ap (λ y. latest list f.array y n) o.1) ∙ same_definition-true _ _ h in
+      true≢false (sym (and_from _ _ w.writes w.of_cell) ∙ no_write list f.array f.cell f.place n w.next stays later exists)) in
       at_end_in_time (omega arith) a c ∙ faulted_where (omega arith) a c ∙ cond-false _ _ _ gone
 
   kept_in_time : ¬ IsOverwritten list f → f.place < n → (a : ℕ) (c : List ℤ) → at_end a c ≡ inverted f calm a c
   kept_in_time none l a c =
       let stays : latest list f.array f.cell n ≡ latest list f.array f.cell f.place = latest_unwritten list f.array f.cell f.place n (omega arith)
-          (λ p x y. false_from_ne_true _ (λ h. let t = and_parts _ _ h in none (record { next = p; later = x; exists = y; of_cell = t.1; writes = t.0 }))) in
+      (λ p x y. false_from_ne_true _ (λ h. let t = and_parts _ _ h in none (record { next = p; later = x; exists = y; of_cell = t.1; writes = t.0 }))) in
       at_end_in_time l a c ∙ faulted_where l a c ∙ elim (cases_Bool (eqb f.array a && same_cell f.cell c)) [
         | inl t ↦ (
             let p = and_parts _ _ t in

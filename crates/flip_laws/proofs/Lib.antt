@@ -6,3 +6,4 @@ pub mod Steps
 pub mod Views
 pub mod Independent
 pub mod Apart
+pub mod Samples

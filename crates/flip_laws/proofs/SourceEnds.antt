@@ -8,7 +8,7 @@ use Rattle.c_tree.specs.Accesses.{Access, Clean}
 use Rattle.c_tree.specs.Fault.{Upset}
 use Rattle.c_tree.specs.Instances.{untagged, core_of, accesses}
 use Rattle.c_tree.specs.Inputs.{PlainInputs, arrays_for, memory_for, IsSound}
-use Rattle.c_tree.specs.Run.{State, Outcome, goes_on, ends, exec_all, Ended, result, started, run_from}
+use Rattle.c_tree.specs.Run.{State, Outcome, goes_on, ends, exec_all, result, started, run_from}
 use Rattle.balance_laws.specs.Replay.{Replays, left_after}
 use Rattle.run_laws.specs.Logs.{accesses_in, values_in}
 use Rattle.instrumentation.specs.Passes.{cell_piece, write_pieces_all, piece_at}
@@ -17,7 +17,6 @@ use Rattle.instrumentation_laws.specs.AccessList.{tagged_all}
 use Rattle.instrumentation_laws.specs.Setting.{text, scope_of, IsStart}
 use Rattle.instrumentation_laws.specs.RegularUnits.{number_for}
 use Rattle.instrumentation_laws.specs.TextLaws.{EndsWith, WhereGoing, EndAlike, EveryTextEnds, EveryTextFollows}
-use Rattle.instrumentation_laws.specs.UnitLaws.{IsGoing, IsCounted}
 use Rattle.pass_laws.specs.Laws.{IsReady, UnitsGoOn}
 
 -- a run goes on to a state whose accesses are the list and whose values follow the memory, which it leaves

@@ -6,7 +6,7 @@ use Rattle.c_tree.specs.Fault.{Fault, Upset, upset_of}
 use Rattle.c_tree.specs.Instances.{accesses}
 use Rattle.c_tree.specs.Inputs.{PlainInputs, arrays_for, memory_for, Fit, IsSound}
 use Rattle.c_tree.specs.Run.{Event, Outcome, result, plain, Ended, run}
-use Rattle.run_laws.specs.Logs.{accesses_in, values_in}
+use Rattle.run_laws.specs.Logs.{values_in}
 use Rattle.instrumentation.specs.Guarded.{guarded}
 use Rattle.instrumentation_laws.specs.Setting.{scope_of}
 use Rattle.instrumentation_laws.specs.TextLaws.{EveryTextEnds, EveryTextFollows}

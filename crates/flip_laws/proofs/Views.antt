@@ -6,7 +6,7 @@ use Rattle.c_tree.specs.Plain.{Word, PlainExpr, lit, var, cell, un, bin, cast, t
 use Rattle.c_tree.specs.Values.{Vars, exact, loop_values}
 use Rattle.c_tree.specs.Arrays.{Array, Memory, array_named, is_within}
 use Rattle.c_tree.specs.Accesses.{Access}
-use Rattle.c_tree.specs.Instances.{Instance, sites, sites_all, test_is_true, instances, instances_all, word_within, word_at, exact_all, subscript, subscripts, access_at, access_of, reads_of, reads_of_all, old_cell, accesses_of, Tagged, tagged_of, core_of}
+use Rattle.c_tree.specs.Instances.{Instance, sites, sites_all, test_is_true, instances, instances_all, word_within, word_at, exact_all, subscripts, access_at, access_of, reads_of, reads_of_all, old_cell, accesses_of, Tagged, tagged_of, core_of}
 use Rattle.c_tree.specs.declared.expr.BinOp.{BinOp}
 use Rattle.flip_laws.specs.Independence.{StandsIn, StandsAmong, StandsInStmt, StandsInStmts, IsIndexedBy}
 
@@ -143,7 +143,7 @@ module _ (arrays : List Array) (m n : Memory) (trusted : ℕ → Bool) where
   list_same [] h = refl
   list_same (i ∷ is) h =
       let here : SameTagged (tagged_of arrays m i) (tagged_of arrays n i) =
-          tags_are i (accesses_of arrays m i) ∙ ap (map (λ (v : View). let p : View × ℕ × Vars = (v, i.site, i.vars) in p)) h.0 ∙ sym (tags_are i (accesses_of arrays n i)) in
+      tags_are i (accesses_of arrays m i) ∙ ap (map (λ (v : View). let p : View × ℕ × Vars = (v, i.site, i.vars) in p)) h.0 ∙ sym (tags_are i (accesses_of arrays n i)) in
       map-append (tagged_view trusted) (tagged_of arrays m i) (flat_map (tagged_of arrays m) is) ∙
       ap (λ l. l ++ map (tagged_view trusted) (flat_map (tagged_of arrays m) is)) here ∙
       ap (λ l. map (tagged_view trusted) (tagged_of arrays n i) ++ l) (list_same is h.1) ∙

@@ -1,5 +1,5 @@
 -- What the accesses of a source depend on, index arrays included. Its instances depend on parameters alone, since no memory stands in their definition.
-use Rattle.std.specs.Prelude.{◌≡◌, ◌≢◌, ◌⊎◌, ℕ, Bool, List, map, ℤ, Some}
+use Rattle.std.specs.Prelude.{◌≡◌, ◌≢◌, ◌⊎◌, ℕ, Bool, List, map, codes, ℤ, Some, None}
 use Rattle.c_tree.specs.Plain.{Word, PlainExpr, lit, var, cell, un, bin, cast, test, umin, umax, least, greatest, widen, big, PlainExprs, no_exprs, more_exprs, PlainStmt, loop, choice, assign, table, begin, check, verdict, PlainStmts, no_stmts, more_stmts, PlainUnit}
 use Rattle.c_tree.specs.Values.{Vars}
 use Rattle.c_tree.specs.Arrays.{Array, Memory, array_named, vars_of}
@@ -85,3 +85,9 @@ IndexArraysAreAll = (u : PlainUnit) (ns : List ℤ) (m n : Memory) →
 -- Every accepted source is so, whatever subscripts it has.
 abbrev pub AcceptedAreApart : Type 0
 AcceptedAreApart = (u : PlainUnit) → IsAcceptedSource u → AreApart u.body
+
+-- an array that is its own index array: A[i] = A[A[i]]
+abbrev pub own_index : PlainStmts
+own_index =
+    let at = λ (e : PlainExpr). cell (codes "A") (more_exprs e no_exprs) in
+    more_stmts (assign (at (var (codes "i"))) None (at (at (var (codes "i"))))) no_stmts

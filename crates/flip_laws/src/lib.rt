@@ -1,8 +1,11 @@
 //! Laws of faults: what the run of an instrumented unit is under each fault, exposed or not.
 #![tactic(auto)]
 
-ghost use Rattle.flip_laws.specs.FaultyRuns.{AcceptedTellOfFaults, ReadyTellOfFaults};
-ghost use Rattle.flip_laws.specs.Independence.{AcceptedAreApart, IndexArraysAreAll, OwnValuesAreNothing, PlacesAreFixed};
+ghost use Rattle.std.specs.Prelude.{◌≡◌, codes, List, ℕ};
+ghost use Rattle.acceptance.specs.WorkedSources.{gather, mix};
+ghost use Rattle.instrumentation.specs.Guarded.{guarded};
+ghost use Rattle.flip_laws.specs.FaultyRuns.{AcceptedTellOfFaults, ReadyTellOfFaults, TellsOfFaults};
+ghost use Rattle.flip_laws.specs.Independence.{AcceptedAreApart, AreApart, IndexArraysAreAll, IsIndexArray, OwnValuesAreNothing, PlacesAreFixed, own_index};
 
 /// Under every fault the instrumented unit of a source that has the forms that passes ask for takes its source's steps, and has the totals of what this run read and wrote. A fault that isn't exposed shows in nothing but the one bit, where that stays.
 pub fn ready_sources_tell_of_faults()
@@ -37,3 +40,22 @@ pub fn control_is_independent()
 pub fn accepted_sources_are_apart()
     ensures { AcceptedAreApart }
 {}
+
+/// A nest of two loops over three arrays has such an instrumented unit.
+pub fn a_nest_tells_of_faults()
+    ensures { TellsOfFaults mix (guarded mix) }
+{
+    accepted_sources_tell_of_faults();
+    source_laws::a_nest_is_guarded();
+}
+
+/// In a read of X through P, P is the index array and no other is, and no cell is a subscript of its own array. In A[A[i]] one is.
+pub fn a_gather_is_apart()
+    ensures apart { AreApart gather.body }
+    ensures index { IsIndexArray gather.body (codes "P") }
+    ensures alone { (y : List ℕ) → IsIndexArray gather.body y → y ≡ codes "P" }
+    ensures own { ¬ AreApart own_index }
+{
+    accepted_sources_are_apart();
+    source_laws::a_gather_is_exact();
+}
