@@ -1,10 +1,10 @@
 -- The checks of a unit of the grammar name its arrays alone.
-use Rattle.std.proofs.Common.{◌≡◌, ℕ, ◌<◌, Bool, true, false, List, [], ◌∷◌, ◌++◌, length, sym, subst, inl, inr, ◌⊎◌}
+use Rattle.std.proofs.Common.{◌≡◌, ℕ, Bool, true, false, List, [], ◌∷◌, ◌++◌, length, sym, subst, inl, inr}
 use Rattle.c_tree.specs.Names.{arrays_in}
 use Rattle.c_tree.specs.Plain.{PlainStmt, loop, choice, assign, table, begin, check, verdict, PlainStmts, no_stmts, more_stmts, PlainUnit}
 use Rattle.c_tree.specs.Trees.{stmts_of}
 use Rattle.acceptance.specs.Runnable.{IsRunnable}
-use Rattle.acceptance.specs.Trees.{IsInner, AreInner, IsTop, AreTop, IsSourceTree, IsPrintedTree}
+use Rattle.acceptance.specs.Trees.{IsInner, AreInner, IsTop, AreTop, IsPrintedTree}
 use Rattle.balance_cli.proofs.Named.{ChecksBelow, AllCheckBelow}
 
 mutual

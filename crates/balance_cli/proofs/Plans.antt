@@ -1,5 +1,5 @@
 -- How a plan ends, stage by stage: what each stage of the code says makes the ending of the plan.
-use Rattle.std.proofs.Common.{◌≡◌, ◌⊎◌, ℕ, ◌≤◌, List, [], ◌∷◌, ◌++◌, Option, Some, None, option_map, Result, Ok, Err, MatchResult, inl, inr, sym, ◌∙◌, ap, refl, append_assoc, subst, arith}
+use Rattle.std.proofs.Common.{◌≡◌, ℕ, ◌≤◌, List, [], ◌∷◌, ◌++◌, Option, Some, None, option_map, Result, Ok, Err, MatchResult, inl, inr, sym, ◌∙◌, ap, refl, append_assoc, subst, arith}
 use Rattle.std.proofs.lemmas.List.{append-nil}
 use Rattle.edge.specs.Causes.{Rose}
 use Rattle.edge.specs.Shelf.{Told}

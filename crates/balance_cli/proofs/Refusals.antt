@@ -1,5 +1,5 @@
 -- What the code answers of a text that it refuses.
-use Rattle.std.proofs.Common.{◌≡◌, ◌⊎◌, ℕ, ◌≤◌, Bool, true, false, List, length, Option, Some, None, is_some, Result, Ok, Err, MatchResult, refl, sym, ap, subst, ◌∙◌, inl, inr, arith}
+use Rattle.std.proofs.Common.{◌≡◌, ◌⊎◌, ℕ, ◌≤◌, false, List, length, Option, Some, None, is_some, Result, Ok, Err, MatchResult, sym, ap, subst, ◌∙◌, inl, inr, arith}
 use Rattle.std.proofs.lemmas.Bool.{both_ways}
 use Rattle.acceptance.specs.Trees.{IsSourceTree, IsPrintedTree}
 use Rattle.c_tree.specs.Grammar.Texts.{IsText}
@@ -11,7 +11,7 @@ use Rattle.c_tree.specs.declared.refusal.Refusal.TheVariants as refusal
 use Rattle.c_parser.specs.Answers.{IsRefused}
 use Rattle.command_line.specs.Stops.{stop_of}
 use Rattle.kernel_check.specs.Judging.{IsLowest}
-use Rattle.balance_cli.specs.Sources.{Wanted, Regular, AnyText, AnySource, judged_by, judged_of, IsInPlace, IsUnbuiltUnit, Refuses}
+use Rattle.balance_cli.specs.Sources.{Wanted, Regular, AnyText, AnySource, judged_by, IsInPlace, IsUnbuiltUnit, Refuses}
 use Rattle.balance_cli.specs.Stages.{IsOwn, IsRefusedFor, IsSourceOf, IsSourceStop, IsTaken, IsUnitWhy}
 use Rattle.balance_cli.proofs.TextLaws.{unit_refused}
 

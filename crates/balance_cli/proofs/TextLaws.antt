@@ -1,5 +1,5 @@
 -- What the laws of texts say of the judging of one: a text has one unit, and isn't both taken and refused.
-use Rattle.std.proofs.Common.{◌≡◌, ◌⊎◌, ℕ, ◌≤◌, Bool, true, false, List, length, Option, Some, None, is_some, refl, sym, ap, subst, ◌∙◌, inl, inr, arith}
+use Rattle.std.proofs.Common.{◌≡◌, ◌⊎◌, ℕ, Bool, true, false, List, length, Option, Some, None, is_some, refl, sym, ap, subst, ◌∙◌, inl, inr}
 use Rattle.std.proofs.lemmas.Bool.{both_ways}
 use Rattle.acceptance.specs.Items.{lowest}
 use Rattle.acceptance.specs.Printed.{IsAcceptedPrinted}

@@ -1,6 +1,5 @@
 -- Which texts a command takes, with which unit, and which it refuses.
 use Rattle.std.specs.Prelude.{◌≡◌, ◌⊎◌, ℕ, Bool, true, false, List, Option, Some, None}
-use Rattle.acceptance.specs.Items.{lowest}
 use Rattle.acceptance.specs.Printed.{IsAcceptedPrinted}
 use Rattle.acceptance.specs.Sources.{IsAcceptedSource, all_are_regular, judged}
 use Rattle.built_forms.specs.Built.{IsBuiltPrinted}
