@@ -2,7 +2,7 @@
 use Rattle.std.proofs.Common.{◌≡◌, ⊎_elim, refl, codes, subst, inl, inr}
 use Rattle.acceptance.specs.WorkedSources.{gather, at as cell_at}
 use Rattle.c_tree.specs.Plain.{Word, PlainExprs, more_exprs, no_exprs, var}
-use Rattle.flip_laws.specs.Independence.{StandsInStmts, IsIndexedBy, IsIndexArray, AreApart, own_index}
+use Rattle.flip_laws.specs.Independence.{IsIndexedBy, IsIndexArray, AreApart, own_index}
 
 abbrev of_p : PlainExprs
 of_p = more_exprs (cell_at (codes "P") (var (codes "i"))) no_exprs

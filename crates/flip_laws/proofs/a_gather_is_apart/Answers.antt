@@ -1,4 +1,3 @@
-use Rattle.std.proofs.Common.{refl, codes, inl, inr}
 use Rattle.acceptance.specs.WorkedSources.{gather}
 use Rattle.flip_laws.proofs.Samples.{gather_index, gather_alone, own_is_not_apart}
 use Rattle.flip_laws.proofs.a_gather_is_apart.Goals as goal
