@@ -18,11 +18,11 @@ use Rattle.instrumentation.specs.Passes.{cell_piece, write_pieces_all, piece_at}
 use Rattle.instrumentation_laws.specs.Pieces.{IsSitePiece}
 use Rattle.instrumentation_laws.specs.PrologueTotals.{IsCellPiece, AreCellPieces}
 use Rattle.instrumentation_laws.specs.RegularUnits.{number_for, HasPieces}
-use Rattle.pass_laws.specs.Laws.{IsReady, UnitsHavePieces}
+use Rattle.pass_laws.specs.Laws.{UnitsHavePieces}
 use Rattle.source_laws.specs.Laws.{AcceptedAreReady, IsRegularSource}
 use Rattle.unit_builder.specs.Parts.{array_piece}
 use Rattle.count_loops.specs.Assignments.{assignment_of}
-use Rattle.count_loops.specs.Passes.{IsStart, pass_of, scope_for, instances_of, CountsUses}
+use Rattle.count_loops.specs.Passes.{IsStart, pass_of, scope_for, CountsUses}
 use Rattle.count_loops.specs.declared.start.Start.{Start}
 use Rattle.count_loops.specs.declared.start.Start.TheVariants.{Cell, Write}
 

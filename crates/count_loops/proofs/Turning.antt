@@ -1,7 +1,7 @@
 -- A pass turns as its source.
-use Rattle.std.proofs.Common.{◌≡◌, ℕ, suc, ◌+◌, ◌-◌, ◌<◌, ◌≤◌, Bool, true, false, cond, List, [], ◌∷◌, length, Option, Some, None, Result, Ok, Err, map, refl, sym, subst, ap, ◌∙◌, arith, ℤ}
+use Rattle.std.proofs.Common.{◌≡◌, ℕ, suc, ◌+◌, ◌-◌, ◌<◌, ◌≤◌, Bool, true, false, cond, List, [], ◌∷◌, length, Option, Some, None, Result, Ok, Err, map, refl, sym, subst, arith}
 use Rattle.std.specs.Prelude.{IfOk, nat_eq, nat_lt, pos}
-use Rattle.std.proofs.lemmas.Bool.{eqb-true, eqb-false}
+use Rattle.std.proofs.lemmas.Bool.{eqb-false}
 use Rattle.c_tree.specs.Plain.{Word, PlainExpr, lit, var, cell, un, bin, cast, test, umin, umax, least, greatest, widen, big, PlainExprs, no_exprs, more_exprs, PlainStmt, loop, choice, assign, table, begin, check, verdict, PlainStmts, no_stmts, more_stmts, PlainUnit}
 use Rattle.c_tree.specs.Trees.{stmt}
 use Rattle.c_tree.specs.Values.{Vars}
@@ -10,10 +10,8 @@ use Rattle.c_tree.specs.Instances.{sites, sites_all}
 use Rattle.c_tree.specs.Inputs.{arrays_for}
 use Rattle.c_tree.specs.declared.memory.OutOfMemory.{OutOfMemory}
 use Rattle.c_tree.specs.declared.stmt.Stmt.{Stmt}
-use Rattle.guard_laws.specs.Guards.{GuardsInDetail}
-use Rattle.instrumentation.specs.Guarded.{arrays_with_extents, guarded}
-use Rattle.instrumentation.specs.Names.{coordinate}
-use Rattle.instrumentation.specs.Passes.{coordinates_from, cell_piece, write_piece, write_pieces_all, piece_at}
+use Rattle.instrumentation.specs.Guarded.{arrays_with_extents}
+use Rattle.instrumentation.specs.Passes.{coordinates_from, cell_piece, write_pieces_all, piece_at}
 use Rattle.instrumentation_laws.specs.RegularUnits.{number_for}
 use Rattle.pass_laws.specs.Countable.{IsAffine, AreAffine, AllHaveNoCells, IsTarget, IsCountable, AreCountable}
 use Rattle.run_laws.specs.Sources.{HasNoCells}

@@ -1,7 +1,7 @@
 -- The pass of a definition, and what it does.
 use Rattle.std.specs.Prelude.{◌≡◌, ℕ, ◌<◌, true, List, length, Option, Some, slice_get}
 use Rattle.c_tree.specs.Names.{arrays_in}
-use Rattle.c_tree.specs.Plain.{Word, PlainStmt, PlainUnit}
+use Rattle.c_tree.specs.Plain.{PlainStmt, PlainUnit}
 use Rattle.c_tree.specs.Trees.{stmts_of}
 use Rattle.c_tree.specs.Values.{Vars}
 use Rattle.c_tree.specs.Arrays.{extents_at, vars_of}

@@ -1,4 +1,4 @@
-use Rattle.std.proofs.Common.{◌≡◌, sym, subst}
+use Rattle.std.proofs.Common.{sym, subst}
 use Rattle.c_tree.specs.Trees.{stmts, unit}
 use Rattle.unit_builder.specs.Small.{IsSmall}
 use Rattle.count_loops.proofs.Counted.{made_counts, made_for}

@@ -1,4 +1,4 @@
-use Rattle.std.proofs.Common.{◌≡◌, ◌+◌, ◌++◌, ◌<◌, ◌^◌, drop}
+use Rattle.std.proofs.Common.{◌≡◌, ◌+◌, ◌++◌, drop}
 use Rattle.c_tree.specs.Trees.{stmts}
 use Rattle.c_tree.specs.Instances.{sites_all}
 use Rattle.count_loops.specs.Assignments.{assignments_all}
