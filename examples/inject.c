@@ -4,7 +4,7 @@
    The file ACCESSES gets lines `n ARRAY COUNT`, how many cells each array has, and a line `r ARRAY CELL` or `w ARRAY CELL`
    for each access of the run without a flip. FLIPS has a line `ARRAY CELL BIT PLACE` for each flip. Arrays are numbers.
    hooked.h, which inject.py makes, has the text's function, its arrays, what reads their rows, and `call`. */
-#include "timed.h"
+#include <stdint.h>
 
 struct array {
   const char *name;

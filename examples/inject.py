@@ -70,7 +70,8 @@ def header(text, unit):
     """What examples/inject.c has to know of the text."""
     prototype = re.search(r"^(uint64_t bal_fn_.*) {$", text, re.M)[1] + ";"
     arrays = [f'{{.name = "{name}", .constant = {int(constant)}}}' for name, constant, _ in unit.arrays]
-    lines = [prototype, f"static struct array arrays[] = {{{', '.join(arrays)}}};"]
+    lines = ["#include <stdint.h>", prototype, '#include "timed.h"']
+    lines.append(f"static struct array arrays[] = {{{', '.join(arrays)}}};")
     lines += [f"static int64_t int_{x};" for x in unit.ints]
     lines += ["static void read_array(struct array *a, uint64_t count);", "static void read_inputs(void) {"]
     lines += [f'  int_{x} = int_of("{x}");' for x in unit.ints]
@@ -97,7 +98,7 @@ class Build:
         return f"{self.made}-{os.path.basename(part)[:-2]}.o"
 
     def run(self, data, flips):
-        """The outputs without a flip and under each, each a list of lines, and what the first run wrote of its accesses."""
+        """The outputs without a flip and under each, as lists of lines, and what the first run wrote of its accesses."""
         accesses, list_of_flips = os.path.join(self.work, "accesses"), os.path.join(self.work, "flips")
         with open(list_of_flips, "w") as file:
             file.writelines(" ".join(map(str, flip)) + "\n" for flip in flips)
@@ -202,7 +203,7 @@ class Case:
 class Program:
     def __init__(self, path, words, work):
         self.path, self.words, self.flip = path, words, os.path.join(work, "one.flip")
-        self.compared = 0
+        self.name = f"balance {words[0]}"
 
     def output(self, flip=None):
         """Its output and its status, with the text of a flip or without."""
@@ -216,7 +217,6 @@ class Program:
 
     def agrees(self, output, flip=None):
         got, status, _ = self.output(flip)
-        self.compared += 1
         return got == ("\n".join(output) + "\n").encode() and status == (output[-1] != "balanced") * REPORTED
 
     def takes_flips(self, flip):
@@ -224,16 +224,16 @@ class Program:
 
 
 def beside(program, case, flips, outputs):
-    """Compares with the program under at most BESIDE flips, and tells of those under which it does otherwise."""
+    """Compares with the program under at most BESIDE flips, shows those under which it differs, and counts them."""
     texts = [flip_text(flip, case.unit) for flip in flips]
     if not program.takes_flips(texts[0]):
         print("the program takes no flips yet: not compared")
         return 0
-    chosen = range(0, len(flips), max(1, -(-len(flips) // BESIDE)))
-    wrong = [k for k in chosen if not program.agrees(outputs[k], texts[k])]
+    sample = sorted(random.Random(0).sample(range(len(flips)), min(len(flips), BESIDE)))
+    wrong = [k for k in sample if not program.agrees(outputs[k], texts[k])]
     for k in wrong:
-        print(f"{texts[k]}: `balance {program.words[0]}` and the text differ")
-    print(f"`balance {program.words[0]}`: {len(chosen) - len(wrong)} of {len(chosen)} compared are the same")
+        print(f"{texts[k]}: the text leads to {' / '.join(outputs[k])}, and {program.name} differs")
+    print(f"{program.name}: the same as the text under {len(sample) - len(wrong)} of {len(sample)} compared flips")
     return len(wrong)
 
 
@@ -252,7 +252,7 @@ def one_by_one(case, flips, outputs):
         kind, place = case.next_access(flip)
         changed = "as without" if output[:-1] == case.plain[:-1] else " / ".join(output[:-1])
         rows.append((flip_text(flip, case.unit)[5:], kind if place is None else f"{kind} at {place}", output[-1],
-                     changed if len(changed) <= 60 else "otherwise"))
+                     changed if len(changed) <= 100 else "otherwise"))
     table(rows)
 
 
@@ -264,7 +264,7 @@ def by_array(case, flips, outputs):
         counts[(*key, "reported" if output[-1] != "balanced" else "missed")] += 1
         counts[(*key, "wrong")] += output[-1] == "balanced" and output[:-1] != case.plain[:-1]
     columns = ("flips", "reported", "missed", "wrong")
-    rows = [("array", "next access", "flips", "reported", "missed", "missed, and the output is wrong")]
+    rows = [("array", "next access", "flips", "reported", "missed", "missed, output wrong")]
     for name, _, _ in case.unit.arrays:
         for kind in ("read", "write", "none"):
             if counts[name, kind, "flips"]:
@@ -281,7 +281,7 @@ def tried(case, builds, program, flips, each):
         if build is builds[0]:
             first = outputs[1:]
             (one_by_one if each or len(flips) <= SHOWN else by_array)(case, flips, first)
-        bad = [k for k, flip in enumerate(flips) if not case.promised(flip, outputs[k + 1]) or outputs[0] != case.plain]
+        bad = [k for k, flip in enumerate(flips) if not case.promised(flip, outputs[k + 1])]
         for k in bad[:SHOWN]:
             print(f"{build.name}: {flip_text(flips[k], case.unit)} leads to {' / '.join(outputs[k + 1])}")
         print(f"{build.name}: {len(flips) - len(bad)} of {len(flips)} as promised")
@@ -319,16 +319,20 @@ def printed_text(words, work):
 
 
 def first_run(case, builds, program):
-    """The run without a flip, which all builds and the program must make alike."""
+    """The run without a flip, which all builds and the program must make alike, and which must be balanced."""
     outputs, written = builds[0].run(case.data, [])
     case.ran(outputs[0], written)
-    for build in builds[1:]:
-        if build.run(case.data, []) != (outputs, written):
-            stop(f"{build.name} and {builds[0].name} differ without a flip")
-    if program and not program.agrees(case.plain):
-        stop(f"the text and `balance {program.words[0]}` differ without a flip: {program.output()[2].strip()}")
+    others = [build.name for build in builds[1:] if build.run(case.data, []) != (outputs, written)]
+    if program:
+        complaint = program.output()[2]
+        if complaint:
+            stop(complaint.strip())
+        if not program.agrees(case.plain):
+            others.append(program.name)
     print(f"without a flip: {len(case.accesses)} accesses, {case.plain[-1]}")
-    return case.plain[-1] == "balanced"
+    if others or case.plain[-1] != "balanced":
+        print(f"not as promised: {', '.join(others) or builds[0].name}")
+        sys.exit(1)
 
 
 def found(compiler):
@@ -341,7 +345,9 @@ def chosen(words, case):
         return [("the given flips", [read_flip(path, case) for path in words.flips])]
     if not any(case.counts):
         stop("no array has a cell")
-    lists = [(f"{words.n} random flips, seed {words.s}", random_flips(case, words.n, words.s))]
+    lists = []
+    if words.n > 0:
+        lists.append((f"{words.n} random flips, seed {words.s}", random_flips(case, words.n, words.s)))
     if (len(case.accesses) + 1) * sum(case.counts) * len(BITS) <= SMALL:
         lists.append((f"every cell and place, bits {', '.join(map(str, BITS))}", all_flips(case)))
     return lists
@@ -358,12 +364,15 @@ def main():
             with open(os.path.join(work, name), "w") as file:
                 file.write(made)
         builds = [Build(work, compiler, level) for compiler in COMPILERS if found(compiler) for level in LEVELS]
+        if not builds:
+            stop(f"none of {', '.join(COMPILERS)} is installed")
         case = Case(unit, words.data)
-        right = first_run(case, builds, program)
+        first_run(case, builds, program)
+        wrong = 0
         for title, flips in chosen(words, case):
             print(f"== {title}")
-            right &= tried(case, builds, program, flips, words.a) == 0
-    sys.exit(0 if right else 1)
+            wrong += tried(case, builds, program, flips, words.a)
+    sys.exit(1 if wrong else 0)
 
 
 if __name__ == "__main__":

@@ -16,13 +16,12 @@
 # - where the next access of the cell is a read, the fault is reported in this array alone;
 # - else the text is balanced and leaves what it leaves without the flip, but for the bit itself where no access follows.
 # Where the program takes the word FLIP, what it writes and its status are compared with the text's, too: under at most 200
-# of the flips, evenly chosen. Without a flip they always are.
+# of the flips, chosen at random. Without a flip they always are.
 #
-# This shows that the text tells of a flip in memory at each place between two accesses. The calls also make a compiler
-# load the cell again at each read, since the called function may have changed it. In a text without calls it need not: it
-# may keep a cell in a register from one access to the next, and a flip in memory then changes nothing, or a flip in the
-# register, which isn't memory, changes what is read. Flips before `begin`, in totals, words, loop variables or code, and
-# two flips in one run, aren't tried.
+# What this doesn't show: because of the calls a compiler loads a cell again at each read, as the called function may have
+# changed it. In the text as it is printed it need not. Where it keeps a cell in a register from one access to the next
+# (clang 14 -O2 does in shift.c), nothing reads memory there, and a flip in memory stays in its cell unnoticed. Flips before
+# `begin`, in totals, words, loop variables or code, and two flips in one run, aren't tried.
 set -eu
 root=$(cd "$(dirname "$0")/.." && pwd)
 export BALANCE=${BALANCE:-$root/bin/balance}
