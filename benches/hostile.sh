@@ -1,17 +1,21 @@
 #!/usr/bin/env bash
 # Gives the program each text of crates/hostile_tests, with 16,777,216 bytes: opening marks, unclosed and closed, and
-# much of what is flat. Each must be answered as the tables there say, by status 5 and the line on the error stream:
-# tokens and no unit, no tokens, or a unit, which is of no form that is run. A text that overflowed the stack would end
-# by a signal. Prints the processor time and the most memory of each, and ends with 1 where an answer is another.
+# much of what is flat. Each must be answered as the tables there say, by its status and the line on the error stream:
+# tokens and no unit, no tokens, or a unit, which is refused by a number or else comes to its data file, and there is
+# none. A text that overflowed the stack would end by a signal. Prints the processor time and the most memory of each,
+# and ends with 1 where an answer is another.
 #   benches/hostile.sh [PROGRAM] [BYTES]
 set -eu
+benches=$(cd "$(dirname "$0")" && pwd)
 program=${1:-bin/balance}
 bytes=${2:-16777216}
 [ -x "$program" ] || { echo "benches/hostile.sh: no program at $program (make build)" >&2; exit 1; }
 folder=$(mktemp -d)
 trap 'rm -rf "$folder"' EXIT
-python3 - "$program" "$folder" "$bytes" "$(dirname "$0")/.." <<'PY'
-import ast, os, re, subprocess, sys
+export PYTHONPATH=$benches PYTHONDONTWRITEBYTECODE=1
+python3 - "$program" "$folder" "$bytes" "$benches/.." <<'PY'
+import ast, os, re, sys
+from measure import measured
 
 program, folder, size, root = sys.argv[1], sys.argv[2], int(sys.argv[3]), sys.argv[4]
 with open(os.path.join(root, "crates/hostile_tests/src/hostile.rt")) as file:
@@ -31,9 +35,19 @@ def table(name, width):
     numbers = [int(n) for n in re.findall(r"(\d+)\b", re.sub(r'"(?:[^"\\]|\\.)*"', "", body))]
     return rows, numbers
 
+# What refuses a unit, by the piece or the core that it has; the others are accepted.
+REFUSED = {
+    "#pragma balance range n 1 2\n": "S7 BadRange in item 0",
+    "int64_t n, ": "S4 NameTwice in item 0",
+    "uint64_t s = 0; ": "S4 NameTwice in item 0",
+    "x = 1;": r"S8 TooMany statements \d+ in item 0",
+    "{": "S13 WrongDimensions in item 1",
+}
+ACCEPTED = "cannot read none"
+
 def texts():
     """Each text as its five parts, and the line that answers it."""
-    syntax, built = r"S3 Syntax at byte \d+", "S0 Unbuilt"
+    syntax = r"S3 Syntax at byte \d+"
     for name in ("IN_EXPRESSIONS", "IN_CONDITIONS", "IN_STATEMENTS", "IN_HEADS"):
         for front, piece in table(name, 2)[0]:
             yield [front, piece, "", "", ""], syntax
@@ -43,18 +57,11 @@ def texts():
     rows, places = table("WITHOUT_TOKENS", 2)
     for (front, piece), byte in zip(rows, places, strict=True):
         yield [front, piece, "", "", ""], f"S2 Lexical at byte {byte}"
-    for name, line in (("CLOSED_UNITS", built), ("FLAT_UNITS", built), ("CLOSED_OTHERS", syntax)):
+    for name in ("CLOSED_UNITS", "FLAT_UNITS"):
         for parts in table(name, 5)[0]:
-            yield parts, line
-
-def measured(name):
-    """The status, what was said, the processor time, and the most memory in MB."""
-    words = [program, "run", name, "none"]
-    child = subprocess.Popen(words, stdout=subprocess.DEVNULL, stderr=subprocess.PIPE)
-    said = child.stderr.read().decode(errors="replace")
-    _, ended, usage = os.wait4(child.pid, 0)
-    status = os.waitstatus_to_exitcode(ended)
-    return status, said, usage.ru_utime + usage.ru_stime, usage.ru_maxrss / 1024
+            yield parts, REFUSED.get(parts[1], ACCEPTED)
+    for parts in table("CLOSED_OTHERS", 5)[0]:
+        yield parts, syntax
 
 name, wrong, count, most_time, most_memory = os.path.join(folder, "text.c"), 0, 0, 0, 0
 print(f"{'seconds':>8} {'MB':>6}   text, and its answer")
@@ -63,13 +70,16 @@ for parts, line in texts():
     copies = (size - len(front) - len(core) - len(back)) // (len(piece) + len(close))
     with open(name, "wb") as file:
         file.write(front + piece * copies + core + close * copies + back)
-    status, said, spent, memory = measured(name)
-    right = status == 5 and re.fullmatch(f"balance: {re.escape(name)}: {line}\n", said)
+    run = measured([program, "run", name, "none"])
+    status, answer = (3, line) if line == ACCEPTED else (5, f"{re.escape(name)}: {line}")
+    right = run.status == status and re.fullmatch(f"balance: {answer}", run.said)
     wrong += not right
-    count, most_time, most_memory = count + 1, max(most_time, spent), max(most_memory, memory)
+    count, most_time, most_memory = count + 1, max(most_time, run.seconds), max(most_memory, run.memory)
     shown = " .. ".join(repr(part[-40:])[1:-1] for part in parts if part)
-    answer = said.strip().replace(f"balance: {name}: ", "")[:60] or f"status {status}"
-    print(f"{spent:8.3f} {memory:6.0f}   {shown}   {answer}{'' if right else f'   WRONG, wanted {line}'}", flush=True)
-print(f"{count} texts of {size} bytes, {wrong} answered wrongly; at most {most_time:.1f} s and {most_memory:.0f} MB")
+    answer = run.said.replace(f"{name}: ", "").replace("balance: ", "")[:60] or f"status {run.status}"
+    answer += "" if right else f"   WRONG, wanted {line}"
+    print(f"{run.seconds:8.3f} {run.memory / 1e6:6.0f}   {shown}   {answer}", flush=True)
+most = f"at most {most_time:.1f} s and {most_memory / 1e6:.0f} MB"
+print(f"{count} texts of {size} bytes, {wrong} answered wrongly; {most}")
 sys.exit(1 if wrong else 0)
 PY

@@ -1,16 +1,20 @@
 #!/usr/bin/env bash
 # Times the reading of texts: `balance run` reads a text whole before it refuses or runs it, and none of these is run.
-# For each size the least processor time (user and system) of three runs, and the most memory.
+# For each size the fastest of three runs in processor time (user and system), and the most memory.
 #   assignments  a printed text of assignments alone, with gcc -fsyntax-only on the same text beside it
 #   parentheses, braces  that mark alone
 #   comment      one comment
+#   benches/parse.sh [PROGRAM]
 set -eu
+benches=$(cd "$(dirname "$0")" && pwd)
 program=${1:-bin/balance}
 [ -x "$program" ] || { echo "benches/parse.sh: no program at $program (make build)" >&2; exit 1; }
 folder=$(mktemp -d)
 trap 'rm -rf "$folder"' EXIT
+export PYTHONPATH=$benches PYTHONDONTWRITEBYTECODE=1
 python3 - "$program" "$folder" <<'PY'
-import os, resource, subprocess, sys, time
+import os, sys
+from measure import fastest, measured
 
 program, folder = sys.argv[1:]
 LIMIT = 16_777_216
@@ -42,17 +46,10 @@ KINDS = [
     ("comment", lambda size: "/*" + " " * (size - 4) + "*/"),
 ]
 
-def measured(words):
-    """The least processor time of three runs, the most memory in MB, and what was said."""
-    best, most, said = None, 0, b""
-    for _ in range(3):
-        child = subprocess.Popen(words, stdout=subprocess.DEVNULL, stderr=subprocess.PIPE)
-        said = child.stderr.read()
-        _, _, usage = os.wait4(child.pid, 0)
-        spent = usage.ru_utime + usage.ru_stime
-        best = spent if best is None else min(best, spent)
-        most = max(most, usage.ru_maxrss / 1024)
-    return best, most, said.decode(errors="replace").strip().replace(folder + "/", "")
+def show(kind, size, words):
+    run = fastest(words, rounds=3, once=measured)
+    said, a_megabyte = run.said.replace(folder + "/", "")[:60], run.seconds * 1e6 / size
+    print(f"{kind:12} {size:10} {run.seconds:8.3f} {run.memory / 1e6:7.0f} {a_megabyte:7.4f}   {said}", flush=True)
 
 print(f"{'text':12} {'bytes':>10} {'seconds':>8} {'MB':>7} {'s a MB':>7}   answer")
 for kind, make in KINDS:
@@ -60,9 +57,7 @@ for kind, make in KINDS:
         name = os.path.join(folder, kind + ".c")
         with open(name, "w") as file:
             file.write(make(size))
-        spent, most, said = measured([program, "run", name, "none"])
-        print(f"{kind:12} {size:10} {spent:8.3f} {most:7.0f} {spent * (1 << 20) / size:7.4f}   {said[:60]}")
+        show(kind, size, [program, "run", name, "none"])
         if kind == "assignments":
-            spent, most, _ = measured(["gcc", "-std=gnu17", "-w", "-fsyntax-only", name])
-            print(f"{'  gcc':12} {size:10} {spent:8.3f} {most:7.0f} {spent * (1 << 20) / size:7.4f}")
+            show("  gcc", size, ["gcc", "-std=gnu17", "-w", "-fsyntax-only", name])
 PY

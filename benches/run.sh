@@ -1,105 +1,125 @@
 #!/usr/bin/env bash
-# Times the interpreter beside a tree walk in C and gcc -O2, on the same inputs: ROUNDS rounds over all rows (5, or the
-# first argument), of which the fastest counts. Times are of processor, user and system.
+# Times `balance run` and `balance try` of the kernels in benches/kernels beside a tree walk in C (benches/walk.c) and
+# gcc -O2, on the same data: ROUNDS rounds over all rows, of which the fastest counts. Times are of processor, user and
+# system. What the three write must be the same, byte for byte.
 #
-# The walk and the compiled loop time their run alone. Of `balance`, what the same command takes for a source without
-# a turn, on the same data, is subtracted: it has read and written as many digits.
+# With `run` the walk and gcc get the source, with `try` what `balance print` writes of it, whose counting passes make
+# many more turns. They time their run alone. Of `balance`, what the same command takes for a source without a
+# statement, on the same data, is subtracted: it has read and written as many cells.
+#   benches/run.sh [ROUNDS] [PROGRAM]
 set -eu
-cd "$(dirname "$0")/.."
-rounds=${1:-5}
-program=$PWD/bin/balance
+benches=$(cd "$(dirname "$0")" && pwd)
+program=${2:-$benches/../bin/balance}
+[ -x "$program" ] || { echo "benches/run.sh: no program at $program (make build)" >&2; exit 1; }
 work=$(mktemp -d)
 trap 'rm -rf "$work"' EXIT
-TIMEFORMAT='%3U %3S'
-declare -A least counts
+export PYTHONPATH=$benches PYTHONDONTWRITEBYTECODE=1
+python3 - "$benches" "$program" "$work" "${1:-5}" <<'PY'
+import filecmp, os, random, subprocess, sys
+import driver, tree
+from measure import succeeded
 
-# The command, the reads in the sum, the cells, and the word in each: 1229782938247303441 times 16 plus 1 is itself,
-# modulo 2^64.
-rows=(
-  'run 1 500000 1000000'
-  'run 1 1000000 1000000'
-  'run 1 2000000 1000000'
-  'run 16 100000 1229782938247303441'
-  'run 16 400000 1229782938247303441'
-  'try 1 1000 1000000'
-  'try 1 2000 1000000'
-  'try 1 4000 1000000'
-)
+benches, program, work, rounds = *sys.argv[1:4], int(sys.argv[4])
+GCC = ["gcc", "-std=gnu17", "-O2", "-I", benches]
+WALK = os.path.join(work, "walk")
+FULL = (10**18, 2**64 - 1)
+AIM = 1.25
 
-compile() { gcc -std=gnu17 -O2 -Wall -Wextra "$@"; }
+# The command, the kernel, its parameters, and the least and the greatest word of an array that isn't full of long
+# words: what is written has as many digits as what is read, and a data file is within its limit.
+ROWS = [
+    ("run", "shift", {"n": 4_000_000}, {"A": (1_000_000, 1_000_000)}),
+    ("run", "sixteen", {"n": 1_000_000}, {}),
+    ("run", "product", {"n": 200}, {}),
+    ("run", "lu", {"n": 250}, {}),
+    ("run", "plane", {"t": 20, "n": 300}, {}),
+    ("run", "cube", {"n": 120}, {"A": (1_500_000, 9_900_000), "B": (11_000_000, 69_000_000)}),
+    ("try", "shift", {"n": 4_000}, {}),
+    ("try", "sixteen", {"n": 1_200}, {}),
+    ("try", "product", {"n": 16}, {}),
+    ("try", "lu", {"n": 24}, {}),
+    ("try", "plane", {"t": 8, "n": 16}, {}),
+    ("try", "cube", {"n": 14}, {}),
+]
 
-# A source: examples/shift.c for larger sizes, with so many reads in the sum, and these bounds of the loop.
-source_of() { # READS FIRST LAST
-  local sum='A[i]' j
-  for ((j = 1; j < $1; j++)); do sum+=" + A[i - $j]"; done
-  sed -e 's/range n 1 1000/range n 1 4000000/' -e "s/A\[i\] + 1/$sum + 1/" \
-    -e "s/i = 0; i < n - 1;/i = $2; i < n - $3;/" examples/shift.c
-}
 
-data_of() { # CELLS WORD
-  awk -v n="$1" -v word="$2" 'BEGIN { printf "n = %d\nA = %s", n, word; for (i = 1; i < n; i++) printf " %s", word; print "" }'
-}
+class Row:
+    def __init__(self, number, command, kernel, ints, ranges):
+        self.command, self.kernel, self.ints, self.ranges = command, kernel, ints, ranges
+        self.folder = os.path.join(work, str(number))
+        self.best = {}
 
-prepare() { # FOLDER COMMAND READS CELLS WORD
-  local text=$1/source.c flags=()
-  mkdir "$1"
-  source_of "$3" $(($3 - 1)) 1 > "$1/source.c"
-  source_of "$3" 1048576 1048576 > "$1/idle.c"
-  data_of "$4" "$5" > "$1/data"
-  if [ "$2" = try ]; then
-    text=$1/printed.c flags=(-DPRINTED)
-    "$program" print "$1/source.c" > "$text"
-  fi
-  compile -w "${flags[@]}" "-DTEXT=\"$text\"" -o "$1/compiled" benches/compiled.c
-}
+    def file(self, name):
+        return os.path.join(self.folder, name)
 
-# The processor time of a command, whose output goes to a file.
-seconds_of() { # FILE COMMAND..
-  local file=$1 user system
-  shift
-  read -r user system < <({ time "$@" > "$file" 2> /dev/null; } 2>&1)
-  test -s "$file" || return 1
-  awk -v a="$user" -v b="$system" 'BEGIN { print a + b }'
-}
+    def prepare(self):
+        os.mkdir(self.folder)
+        source = os.path.join(benches, "kernels", self.kernel + ".c")
+        text = self.file("printed.c") if self.command == "try" else source
+        if self.command == "try":
+            succeeded([program, "print", source], text)
+        self.unit = tree.read(text)
+        self.cells = sum(tree.cells(a, self.ints) for a in self.unit.arrays)
+        self.write_data()
+        with open(source) as given, open(self.file("idle.c"), "w") as idle:
+            idle.write(given.read().split("{", 1)[0] + "{\n}\n")
+        with open(self.file("tree"), "w") as out:
+            out.write(tree.tree_of(self.unit))
+        with open(self.file("main.c"), "w") as out:
+            out.write(driver.main_of(self.unit, text))
+        subprocess.run([*GCC, "-w", "-o", self.file("compiled"), self.file("main.c")], check=True)
+        self.balance = [program, self.command, source, self.file("data")]
+        self.idle = [program, self.command, self.file("idle.c"), self.file("data")]
 
-keep() { # NAME SECONDS
-  least[$1]=$(awk -v a="${least[$1]:-$2}" -v b="$2" 'BEGIN { print b < a ? b : a }')
-}
+    def write_data(self):
+        words = random.Random(1)
+        with open(self.file("data"), "w") as out:
+            for name, value in self.ints.items():
+                out.write(f"{name} = {value}\n")
+            for array in self.unit.arrays:
+                least, greatest = self.ranges.get(array[0], FULL)
+                cells = (words.randint(least, greatest) for _ in range(tree.cells(array, self.ints)))
+                out.write(f"{array[0]} = {' '.join(map(str, cells))}\n")
 
-measure() { # FOLDER COMMAND READS
-  local tree=$3 seconds
-  [ "$2" = run ] || tree=printed
-  seconds=$(seconds_of "$1/output" "$program" "$2" "$1/source.c" "$1/data")
-  keep "$1 balance" "$seconds"
-  seconds=$(seconds_of "$1/no-output" "$program" "$2" "$1/idle.c" "$1/data")
-  keep "$1 idle" "$seconds"
-  seconds=$("$work/walk" "$tree" 1 < "$1/data" 2>&1 > "$1/walked")
-  keep "$1 walk" "${seconds##* }"
-  counts[$1]=${seconds% *}
-  seconds=$("$1/compiled" 3 < "$1/data" 2>&1 > "$1/computed")
-  keep "$1 compiled" "$seconds"
-  cmp "$1/output" "$1/walked"
-  cmp "$1/output" "$1/computed"
-}
+    def keep(self, what, seconds):
+        self.best[what] = min(seconds, self.best.get(what, seconds))
 
-shown() { # FOLDER COMMAND READS CELLS
-  echo "$2 $3 $4 ${counts[$1]} ${least[$1 balance]} ${least[$1 idle]} ${least[$1 walk]} ${least[$1 compiled]}" | awk '{
-    s = $6 - $7
-    printf "%-4s %6d %9d %10d %10d %9.3f %12.3g %12.3g %8.2f %8.1f\n", $1, $2, $3, $4, $5, s, $4 / s, $5 / s, s / $8, s / $9 }'
-}
+    def measure(self):
+        """One round: of what the row keeps, the fastest counts."""
+        data = self.file("data")
+        self.keep("balance", succeeded(self.balance, self.file("output")).seconds)
+        self.keep("idle", succeeded(self.idle, self.file("no-output")).seconds)
+        said = succeeded([WALK, self.file("tree"), "1"], self.file("walked"), data).said.split()
+        self.accesses, self.turns = int(said[0]), int(said[1])
+        self.keep("walk", float(said[2]))
+        said = succeeded([self.file("compiled"), "3"], self.file("computed"), data).said
+        self.keep("gcc", float(said))
+        for other in ("walked", "computed"):
+            if not filecmp.cmp(self.file("output"), self.file(other), shallow=False):
+                sys.exit(f"benches/run.sh: {self.command} {self.kernel}: not what is {other}")
 
-# Does this with the folder and the words of each row.
-for_each_row() {
-  local k words
-  for k in "${!rows[@]}"; do
-    read -ra words <<< "${rows[k]}"
-    "$1" "$work/$k" "${words[@]}"
-  done
-}
+    def shown(self):
+        """Writes the row, and says whether it meets the aim."""
+        seconds = self.best["balance"] - self.best["idle"]
+        row = f"{self.command:<5}{self.kernel:<9}{self.cells:>8}{self.accesses:>10}{self.turns:>10}{seconds:>9.3f}"
+        if seconds <= 0:
+            print(row, " too short for this machine")
+            return False
+        walk, gcc = seconds / self.best["walk"], seconds / self.best["gcc"]
+        print(f"{row}{self.accesses / seconds:>12.3g}{self.turns / seconds:>12.3g}{walk:>7.2f}{gcc:>9.1f}")
+        return walk <= AIM
 
-compile -o "$work/walk" benches/walk.c
-for_each_row prepare
-for ((round = 0; round < rounds; round++)); do for_each_row measure; done
-echo "Processor time of balance, the fastest of $rounds rounds, and how many times as long as the walk and gcc -O2 it took."
-printf '%-4s %6s %9s %10s %10s %9s %12s %12s %8s %8s\n' '' reads cells accesses turns seconds accesses/s turns/s walk 'gcc -O2'
-for_each_row shown
+
+rows = [Row(number, *row) for number, row in enumerate(ROWS)]
+subprocess.run([*GCC, "-Wall", "-Wextra", "-o", WALK, os.path.join(benches, "walk.c")], check=True)
+for row in rows:
+    row.prepare()
+for _ in range(rounds):
+    for row in rows:
+        row.measure()
+print(f"Processor time of balance, the fastest of {rounds} rounds, and how many times that of the walk and of gcc -O2.")
+print(f"{'':<14}{'cells':>8}{'accesses':>10}{'turns':>10}{'seconds':>9}"
+      f"{'accesses/s':>12}{'turns/s':>12}{'walk':>7}{'gcc -O2':>9}")
+met = [row.shown() for row in rows]
+print(f"The aim is at most {AIM} times the walk: {sum(met)} of {len(rows)} rows.")
+PY

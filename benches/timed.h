@@ -1,26 +1,53 @@
-// What the programs that the interpreter is measured against share: the cells of a data file, what is written at the
-// end, and processor time.
+// What the programs that the interpreter is measured against share: the rows of a data file on standard input, the
+// rows of an output, and processor time.
 #include <stdint.h>
 #include <stdio.h>
 #include <stdlib.h>
 #include <string.h>
 #include <time.h>
 
-// The cells of A, from standard input, and their number.
-static uint64_t *read_cells(int64_t *n) {
-  if (scanf("n = %ld A =", n) != 1 || *n < 1) exit(2);
-  uint64_t *cells = malloc(*n * sizeof *cells);
-  if (!cells) exit(2);
-  for (int64_t i = 0; i < *n; i++)
-    if (scanf("%lu", &cells[i]) != 1) exit(2);
-  return cells;
+static void *memory_for(uint64_t count, uint64_t size) {
+  void *memory = calloc(count ? count : 1, size);
+  if (!memory) exit(2);
+  return memory;
 }
 
-// What `balance run` and `balance try` write.
-static void write_output(int64_t n, const uint64_t *cells, const char *verdict) {
-  printf("A =");
-  for (int64_t i = 0; i < n; i++) printf(" %lu", cells[i]);
-  printf("\n%s\n", verdict);
+// The data file.
+static char *data;
+
+static void read_data(void) {
+  size_t room = 1 << 16, length = 0, count;
+  data = malloc(room);
+  while (data && (count = fread(data + length, 1, room - length - 1, stdin)) > 0) {
+    length += count;
+    if (room - length < room / 2) data = realloc(data, room *= 2);
+  }
+  if (!data) exit(2);
+  data[length] = 0;
+}
+
+// What stands behind `NAME = `.
+static char *row_of(const char *name) {
+  size_t length = strlen(name);
+  for (char *row = data; row; row = strchr(row, '\n'), row = row ? row + 1 : NULL)
+    if (strncmp(row, name, length) == 0 && strncmp(row + length, " = ", 3) == 0) return row + length + 3;
+  exit(2);
+}
+
+static int64_t int_of(const char *name) { return strtoll(row_of(name), NULL, 10); }
+
+static void read_cells(const char *name, uint64_t count, uint64_t *cells) {
+  char *at = row_of(name), *end;
+  for (uint64_t k = 0; k < count; k++, at = end) {
+    cells[k] = strtoull(at, &end, 10);
+    if (end == at) exit(2);
+  }
+}
+
+static void write_cells(const char *name, uint64_t count, const uint64_t *cells) {
+  printf("%s =", name);
+  for (uint64_t k = 0; k < count; k++) printf(" %lu", cells[k]);
+  printf("\n");
 }
 
 // The processor time of this process, in seconds.

@@ -1,5 +1,5 @@
 -- The clauses of the top call, from what its stages and its ending say.
-use Rattle.std.proofs.Common.{◌≡◌, ◌⊎◌, ℕ, List, [], Option, Some, None, Result, Ok, Err, inl, inr, sym, ◌∙◌, ap, subst, refl, arith}
+use Rattle.std.proofs.Common.{◌≡◌, ◌⊎◌, ℕ, List, [], Option, Some, None, Result, Ok, Err, inl, inr, sym, ◌∙◌, ap, subst, refl}
 use Rattle.std.proofs.lemmas.Option.{none-some}
 use Rattle.edge.specs.Causes.{Rose}
 use Rattle.balance_cli.specs.Calls.{IsWritten, IsTold, IsEnding, IsAnswer, IsCall}

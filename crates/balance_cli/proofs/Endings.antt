@@ -3,7 +3,6 @@ use Rattle.std.proofs.Common.{◌≡◌, ◌⊎◌, ℕ, ◌<◌, ◌≤◌, Lis
 use Rattle.std.proofs.lemmas.Bool.{cases_lt}
 use Rattle.std.proofs.lemmas.Option.{same_Some}
 use Rattle.edge.specs.Files.{file_of}
-use Rattle.c_tree.specs.declared.refusal.Refusal.{Refusal}
 use Rattle.command_line.specs.Lines.{limit_of}
 use Rattle.command_line.specs.Statuses.{status_of, finish_status, ideal_status}
 use Rattle.command_line.specs.declared.outcome.FileWord.{FileWord}

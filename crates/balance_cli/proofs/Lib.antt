@@ -1,10 +1,11 @@
+pub mod CheckedArrays
 pub mod Clauses
 pub mod Endings
-pub mod Framed
+pub mod Frames
 pub mod HeadsMade
 pub mod Named
 pub mod Plans
+pub mod Refusals
 pub mod Shown
 pub mod Sound
-pub mod Unchecked
 pub mod TextLaws

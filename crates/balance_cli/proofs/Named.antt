@@ -6,24 +6,24 @@ use Rattle.c_tree.specs.Plain.{Word, PlainExpr, lit, var, cell, un, bin, cast, t
 use Rattle.c_tree.specs.Kinds.{join, is_signed, is_word}
 use Rattle.c_tree.specs.Values.{Vars, signed, as_word, as_wide, word_un, word_bin, wide_bin, signed_holds, word_holds, as_bit, loop_values, kind}
 use Rattle.c_tree.specs.Arrays.{Array, array_from, array_named, is_within}
-use Rattle.c_tree.specs.Run.{State, End, plain, balanced, fault, index, outside, Outcome, goes_on, ends, Run, and_then, ◌>>=◌, ◌>>◌, give, reads, end_as, changes, Scope, loads, stores, within, by_array, word, coordinates, first_word, wide, holds, all_hold, updated, assigned, set_word, set_wide, set_entry, make_table, turn, over, disagree, unbalanced, judged, exec, exec_all}
+use Rattle.c_tree.specs.Run.{done, State, End, plain, balanced, fault, index, outside, Outcome, goes_on, ends, Run, and_then, ◌>>=◌, ◌>>◌, give, reads, end_as, changes, Scope, loads, stores, within, by_array, word, coordinates, first_word, wide, holds, all_hold, updated, assigned, set_word, set_wide, set_entry, make_table, turn, over, disagree, unbalanced, judged, exec, exec_all}
 use Rattle.c_tree.specs.declared.expr.BinOp.{BinOp}
 
--- ---- no statement is a check
+-- ---- checks name the first n arrays alone
 
 abbrev mutual
-  pub Unchecked : PlainStmt → Type 0
-  Unchecked (loop x lo rel hi body) = AllUnchecked body
-  Unchecked (choice ts first other) = AllUnchecked first × AllUnchecked other
-  Unchecked (assign target op e) = Unit {0}
-  Unchecked (table x len) = Unit {0}
-  Unchecked begin = Unit {0}
-  Unchecked (check x extent a) = ⊥
-  Unchecked verdict = Unit {0}
+  pub ChecksBelow : ℕ → PlainStmt → Type 0
+  ChecksBelow n (loop x lo rel hi body) = AllCheckBelow n body
+  ChecksBelow n (choice ts first other) = AllCheckBelow n first × AllCheckBelow n other
+  ChecksBelow n (assign target op e) = Unit {0}
+  ChecksBelow n (table x len) = Unit {0}
+  ChecksBelow n begin = Unit {0}
+  ChecksBelow n (check x extent a) = a < n
+  ChecksBelow n verdict = Unit {0}
 
-  pub AllUnchecked : PlainStmts → Type 0
-  AllUnchecked no_stmts = Unit {0}
-  AllUnchecked (more_stmts s ss) = Unchecked s × AllUnchecked ss
+  pub AllCheckBelow : ℕ → PlainStmts → Type 0
+  AllCheckBelow n no_stmts = Unit {0}
+  AllCheckBelow n (more_stmts s ss) = ChecksBelow n s × AllCheckBelow n ss
 
 -- ---- the end names no array but the first n
 
@@ -197,7 +197,7 @@ module _ (sc : Scope) where
   judged_names n (k ∷ ks) h = h
 
   mutual
-    exec_names : (s : PlainStmt) (vs : Vars) → Unchecked s → IsNaming (length sc.arrays) (exec sc s vs)
+    exec_names : (s : PlainStmt) (vs : Vars) → ChecksBelow (length sc.arrays) s → IsNaming (length sc.arrays) (exec sc s vs)
     exec_names (loop x lo rel hi body) vs h =
         over_names _ (λ v. turn >> exec_all sc body ((x, v) ∷ vs)) (loop_values (signed lo vs) rel (signed hi vs))
         (λ v. then_names _ turn (λ _. exec_all sc body ((x, v) ∷ vs)) (changes_names _ _) (λ _. exec_all_names body ((x, v) ∷ vs) h))
@@ -207,9 +207,11 @@ module _ (sc : Scope) where
     exec_names (assign target op e) vs h = assigned_names target op e vs
     exec_names (table x len) vs h = then_names _ (word sc len vs) (make_table x) (word_names len vs) (λ n. changes_names _ _)
     exec_names begin vs h = changes_names _ _
-    exec_names (check x extent a) vs h = absurd h
+    exec_names (check x extent a) vs h =
+        then_names _ (reads (λ s. s.words x)) (λ n. if nat_lt n (as_word (signed extent vs)) then done else end_as (index a)) (reads_names _ _)
+        (λ n. when_names _ (nat_lt n (as_word (signed extent vs))) done (end_as (index a)) (give_names _ tt) (record { names = λ s. h }))
     exec_names verdict vs h = record { names = λ s. judged_names _ (unbalanced s 0 sc.arrays) (unbalanced_below s 0 sc.arrays _ (omega arith)) }
 
-    pub exec_all_names : (ss : PlainStmts) (vs : Vars) → AllUnchecked ss → IsNaming (length sc.arrays) (exec_all sc ss vs)
+    pub exec_all_names : (ss : PlainStmts) (vs : Vars) → AllCheckBelow (length sc.arrays) ss → IsNaming (length sc.arrays) (exec_all sc ss vs)
     exec_all_names no_stmts vs h = give_names _ tt
     exec_all_names (more_stmts s ss) vs h = then_names _ (exec sc s vs) (λ _. exec_all sc ss vs) (exec_names s vs h.0) (λ _. exec_all_names ss vs h.1)

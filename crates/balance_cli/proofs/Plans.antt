@@ -1,27 +1,26 @@
 -- How a plan ends, stage by stage: what each stage of the code says makes the ending of the plan.
-use Rattle.std.proofs.Common.{◌≡◌, ◌⊎◌, ℕ, ◌≤◌, List, [], ◌∷◌, ◌++◌, Option, Some, None, option_map, Result, Ok, Err, MatchResult, inl, inr, sym, ◌∙◌, ap, refl, append_assoc, subst, arith}
+use Rattle.std.proofs.Common.{◌≡◌, ℕ, ◌≤◌, List, [], ◌∷◌, ◌++◌, Option, Some, None, option_map, Result, Ok, Err, MatchResult, inl, inr, sym, ◌∙◌, ap, refl, append_assoc, subst, arith}
 use Rattle.std.proofs.lemmas.List.{append-nil}
 use Rattle.edge.specs.Causes.{Rose}
 use Rattle.edge.specs.Shelf.{Told}
-use Rattle.c_tree.specs.Inputs.{PlainInputs}
+use Rattle.c_tree.specs.Grammar.Texts.{IsText}
+use Rattle.c_tree.specs.Inputs.{PlainInputs, Fit}
 use Rattle.c_tree.specs.Plain.{PlainUnit}
-use Rattle.c_tree.specs.Trees.{unit}
-use Rattle.c_tree.specs.declared.refusal.Refusal.{Refusal}
-use Rattle.c_tree.specs.declared.refusal.Refusal.TheVariants as refusal
-use Rattle.c_tree.specs.declared.unit.Unit.{Unit as TheUnit}
+use Rattle.c_tree.specs.declared.frame.Frame.{Frame}
 use Rattle.c_tree.specs.declared.frame.Inputs.{Inputs}
-use Rattle.command_line.specs.Stops.{stop_of}
 use Rattle.command_line.specs.declared.outcome.FileWord.{FileWord}
 use Rattle.command_line.specs.declared.outcome.Output.{Output}
 use Rattle.command_line.specs.declared.outcome.Stop.{Stop}
 use Rattle.command_line.specs.declared.outcome.Stop.TheVariants.{ReadFault, TooLong, SourceRefused, DataRefused, NoMemory}
+use Rattle.data_file.specs.Answers.{MeansFitting}
+use Rattle.data_file.specs.Conditions.{IsFrame}
+use Rattle.data_file.specs.Frames.{FitsAsMeant, IsFrameOf}
 use Rattle.interp.specs.Finished.{inputs_in}
 use Rattle.balance_cli.specs.Inputs.{IsMeant, IsDataWhy}
 use Rattle.balance_cli.specs.Plans.{Plan, load, ask, give, judge, read, Files, Ends, Follows}
-use Rattle.balance_cli.specs.Sources.{Accepts, IsSourceWhy}
-use Rattle.balance_cli.specs.Stages.{IsLoad, IsJudged, IsTaken, IsRead}
+use Rattle.balance_cli.specs.Sources.{Wanted, Accepts, IsSourceWhy}
+use Rattle.balance_cli.specs.Stages.{IsLoad, IsFramed, IsTaken, IsSourceStop, IsFrameWhy}
 use Rattle.balance_cli.specs.Whys.{Why, of_source, of_data, StopsFor}
-use Rattle.balance_cli.specs.declared.judging.Wanted.{Wanted}
 
 -- a count that rose after an earlier value rose since then
 rose_over : (first middle last : ℕ) → first ≤ middle → Rose middle last → Rose first last
@@ -113,38 +112,38 @@ follows_given is now outcome holds = follows_still (give is) now outcome (ends_g
 
 -- ---- source texts, each read through a reference
 
--- a refusal as the cause that it is
-pub judged_refusal : (kind : Wanted) (text : List ℕ) (why : Refusal) → IsTaken kind text (Err why) → IsJudged kind text (Err (stop_of why))
-judged_refusal kind text refusal.OutOfMemory is = tt
-judged_refusal kind text refusal.Unbuilt is = is
-judged_refusal kind text (refusal.Lexical byte) is = is
-judged_refusal kind text (refusal.Syntax byte) is = is
-judged_refusal kind text _ is = is
-
-judged_at : (kind : Wanted) (text seen : List ℕ) (result : Result TheUnit Stop) → seen ≡ text → IsJudged kind seen result → IsJudged kind text result
-judged_at kind text seen result same one = subst (λ (t : List ℕ). IsJudged kind t result) same one
-
--- one that is accepted, and the rest of the plan
-pub follows_judged : (kind : Wanted) (text seen : List ℕ) (next : PlainUnit → Plan) (before now : Told) (u : TheUnit) (outcome : Result Output Stop) → seen ≡ text → IsJudged kind seen (Ok u) → Follows (next (unit u)) before now outcome → Follows (judge kind text next) before now outcome
-follows_judged kind text seen next before now u outcome same one rest =
-    follows_answered (Accepts kind text) (IsSourceWhy kind text) next before now (unit u) outcome (judged_at kind text seen (Ok u) same one) rest
+-- one that is taken, and the rest of the plan
+pub follows_judged : (kind : Wanted) (text seen : List ℕ) (next : PlainUnit → Plan) (before now : Told) (u : PlainUnit) (f : Frame) (outcome : Result Output Stop) → seen ≡ text → IsTaken kind seen u f → Follows (next u) before now outcome → Follows (judge kind text next) before now outcome
+follows_judged kind text seen next before now u f outcome same one rest =
+    follows_answered (Accepts kind text) (IsSourceWhy kind text) next before now u outcome
+    (record { is_text = subst (λ (t : List ℕ). IsText t u) same one.is_text; built = one.framed.built }) rest
 
 -- one that is refused
-pub follows_refused : (kind : Wanted) (text seen : List ℕ) (next : PlainUnit → Plan) (now : Told) (cause : Stop) → seen ≡ text → IsJudged kind seen (Err cause) → Follows (judge kind text next) now now (Err cause)
+pub follows_refused : (kind : Wanted) (text seen : List ℕ) (next : PlainUnit → Plan) (now : Told) (cause : Stop) → seen ≡ text → IsSourceStop kind seen cause → Follows (judge kind text next) now now (Err cause)
 follows_refused kind text seen next now cause same one =
-    follows_stopped (Accepts kind text) (IsSourceWhy kind text) next now cause (judged_at kind text seen (Err cause) same one)
+    follows_stopped (Accepts kind text) (IsSourceWhy kind text) next now cause (subst (λ (t : List ℕ). IsSourceStop kind t cause) same one)
 
--- ---- data texts
-
-read_at : (head : PlainUnit) (text seen : List ℕ) (result : Result Inputs Stop) → seen ≡ text → IsRead head seen result → IsRead head text result
-read_at head text seen result same one = subst (λ (t : List ℕ). IsRead head t result) same one
+-- ---- data texts, by a frame of the unit
 
 -- one that means inputs, and the rest of the plan
-pub follows_read : (head : PlainUnit) (text seen : List ℕ) (next : PlainInputs → Plan) (before now : Told) (i : Inputs) (outcome : Result Output Stop) → seen ≡ text → IsRead head seen (Ok i) → Follows (next (inputs_in i)) before now outcome → Follows (read head text next) before now outcome
-follows_read head text seen next before now i outcome same one rest =
-    follows_answered (IsMeant head text) (IsDataWhy head text) next before now (inputs_in i) outcome (read_at head text seen (Ok i) same one) rest
+pub follows_read : (kind : Wanted) (head : PlainUnit) (f g : Frame) (text seen : List ℕ) (next : PlainInputs → Plan) (before now : Told) (i : Inputs) (outcome : Result Output Stop) → IsFramed kind head f → g ≡ f → seen ≡ text → MeansFitting g seen i → Follows (next (inputs_in i)) before now outcome → Follows (read head text next) before now outcome
+follows_read kind head f g text seen next before now i outcome framed own same one rest =
+    follows_answered (IsMeant head text) (IsDataWhy head text) next before now (inputs_in i) outcome
+    (record { frame = f; of = framed.of; is = framed.is; means = subst (λ (t : List ℕ). MeansFitting f t i) same (subst (λ (h : Frame). MeansFitting h seen i) own one) }) rest
+
+unread_by : (head : PlainUnit) (f : Frame) (text : List ℕ) (cause : Stop) → IsFrameOf head f → IsFrame f → StopsFor (IsFrameWhy f text) cause → StopsFor (IsDataWhy head text) cause
+unread_by head f text (SourceRefused refusal) of is h = absurd h
+unread_by head f text (DataRefused words) of is h = record { frame = f; of = of; is = is; why = h.0; refused = h.1; written = h.2 }
+unread_by head f text (ReadFault word) of is h = absurd h
+unread_by head f text (TooLong word) of is h = absurd h
+unread_by head f text NoMemory of is h = tt
 
 -- one that is refused
-pub follows_unread : (head : PlainUnit) (text seen : List ℕ) (next : PlainInputs → Plan) (now : Told) (cause : Stop) → seen ≡ text → IsRead head seen (Err cause) → Follows (read head text next) now now (Err cause)
-follows_unread head text seen next now cause same one =
-    follows_stopped (IsMeant head text) (IsDataWhy head text) next now cause (read_at head text seen (Err cause) same one)
+pub follows_unread : (kind : Wanted) (head : PlainUnit) (f g : Frame) (text seen : List ℕ) (next : PlainInputs → Plan) (now : Told) (cause : Stop) → IsFramed kind head f → g ≡ f → seen ≡ text → StopsFor (IsFrameWhy g seen) cause → Follows (read head text next) now now (Err cause)
+follows_unread kind head f g text seen next now cause framed own same one =
+    follows_stopped (IsMeant head text) (IsDataWhy head text) next now cause
+    (unread_by head f text cause framed.of framed.is (subst (λ (t : List ℕ). StopsFor (IsFrameWhy f t) cause) same (subst (λ (h : Frame). StopsFor (IsFrameWhy h seen) cause) own one)))
+
+-- inputs that are meant by the frame of a unit fit the unit
+pub fits_by : FitsAsMeant → (kind : Wanted) (head : PlainUnit) (f g : Frame) (text : List ℕ) (i : Inputs) → IsFramed kind head f → g ≡ f → MeansFitting g text i → Fit head (inputs_in i)
+fits_by law kind head f g text i framed own means = law head f text (inputs_in i) framed.of (subst (λ (h : Frame). MeansFitting h text i) own means)

@@ -1,20 +1,26 @@
 -- The end of a run has the arrays of its unit's frame, and names no others.
-use Rattle.std.proofs.Common.{◌≡◌, ℕ, suc, Bool, List, [], ◌∷◌, length, None, Result, Ok, Err, MatchResult, refl, sym, ap, ◌∙◌, subst}
+use Rattle.std.proofs.Common.{◌≡◌, ℕ, suc, Bool, List, [], ◌∷◌, length, None, Result, Ok, Err, MatchResult, inl, inr, refl, sym, ap, ◌∙◌, subst}
+use Rattle.acceptance.specs.Runnable.{IsRunnable}
+use Rattle.built_forms.specs.Built.{BuiltMakeNoTable}
 use Rattle.c_tree.specs.Arrays.{Array, Memory, arrays_of, vars_of, words_from}
 use Rattle.c_tree.specs.Fault.{upset_of}
-use Rattle.c_tree.specs.Inputs.{PlainInputs, Fit, memory_for}
+use Rattle.c_tree.specs.Inputs.{PlainInputs, memory_for}
+use Rattle.c_tree.specs.Names.{arrays_in}
 use Rattle.c_tree.specs.Plain.{PlainParam, int_param, array_param, PlainUnit}
 use Rattle.c_tree.specs.Run.{Outcome, goes_on, ends, Scope, is_printed, started, exec_all, result, run}
 use Rattle.c_tree.specs.Values.{Vars}
+use Rattle.c_tree.specs.declared.frame.ArrayInfo.{ArrayInfo}
 use Rattle.c_tree.specs.declared.frame.Frame.{Frame}
 use Rattle.c_tree.specs.declared.run.Ended.{Ended}
 use Rattle.c_tree.specs.declared.run.Verdict.{Verdict}
 use Rattle.c_tree.specs.declared.run.Verdict.TheVariants.{Plain, Balanced, Fault, Index, Outside}
 use Rattle.data_file.specs.Conditions.{NamesBelow, IsEndOf}
+use Rattle.data_file.specs.Frames.{AreArrays, IsFrameOf}
 use Rattle.instrumentation.specs.Guarded.{guarded}
 use Rattle.interp.specs.Finished.{verdict_in, IsEnded}
-use Rattle.balance_cli.specs.Frames.{arrays_in, frame_in}
-use Rattle.balance_cli.proofs.Named.{AllUnchecked, Names, NamesIn, exec_all_names}
+use Rattle.balance_cli.specs.Sources.{AnyText, IsBuilt}
+use Rattle.balance_cli.proofs.CheckedArrays.{checks_below}
+use Rattle.balance_cli.proofs.Named.{AllCheckBelow, Names, NamesIn, exec_all_names}
 
 names_below : (n : ℕ) (v : Verdict) → Names n (verdict_in v) → NamesBelow n v
 names_below n Plain h = h
@@ -35,27 +41,41 @@ result_count : (printed : Bool) (sc : Scope) (o : Outcome (Unit {0})) → length
 result_count printed sc (goes_on u s) = words_count _ 0 sc.arrays
 result_count printed sc (ends e s) = words_count _ 0 sc.arrays
 
-array_count : (vs : Vars) (ps qs : List PlainParam) → length (arrays_of vs qs) ≡ length (arrays_in ps qs)
-array_count vs ps [] = refl
-array_count vs ps (int_param x ∷ qs) = array_count vs ps qs
-array_count vs ps (array_param x constant extents ∷ qs) = ap suc (array_count vs ps qs)
+array_count : (vs : Vars) (qs : List PlainParam) → length (arrays_of vs qs) ≡ length (arrays_in qs)
+array_count vs [] = refl
+array_count vs (int_param x ∷ qs) = array_count vs qs
+array_count vs (array_param x constant extents ∷ qs) = ap suc (array_count vs qs)
 
-pub ends_of : (f : Frame) (u source : PlainUnit) (i : PlainInputs) (e : Ended) → f ≡ frame_in source → u.params ≡ source.params → AllUnchecked u.body → IsEnded (run u i None) e → IsEndOf f e
-ends_of f u source i e framed same free is =
+frame_count : (ps : List PlainParam) (n : ℕ) (qs : List PlainParam) (arrays : List ArrayInfo) → AreArrays ps n qs arrays → length (arrays_in qs) ≡ length arrays
+frame_count ps n [] [] h = refl
+frame_count ps n [] (a ∷ arrays) h = absurd h
+frame_count ps n (int_param x ∷ qs) arrays h = frame_count ps n qs arrays h
+frame_count ps n (array_param x constant extents ∷ qs) [] h = absurd h
+frame_count ps n (array_param x constant extents ∷ qs) (a ∷ arrays) h = ap suc (frame_count ps n qs arrays h.3)
+
+pub ends_of : (f : Frame) (u : PlainUnit) (i : PlainInputs) (e : Ended) → IsRunnable u → IsFrameOf u f → IsEnded (run u i None) e → IsEndOf f e
+ends_of f u i e form of is =
     let vs : Vars = vars_of u.params i.ints in
     let sc : Scope = record { arrays = arrays_of vs u.params; wides = u.wides; fault = upset_of (arrays_of vs u.params) None } in
     let o : Outcome (Unit {0}) = exec_all sc u.body vs (started u (memory_for u i)) in
-    let count : length sc.arrays ≡ length (frame_in source).arrays = array_count vs source.params u.params ∙ ap (λ qs. length (arrays_in source.params qs)) same in
+    let own : length sc.arrays ≡ length (arrays_in u.params) = array_count vs u.params in
+    let count : length sc.arrays ≡ length f.arrays = own ∙ frame_count u.params (length f.ints) u.params f.arrays of.arrays in
+    let below : AllCheckBelow (length sc.arrays) u.body = subst (λ (n : ℕ). AllCheckBelow n u.body) (sym own) (checks_below u form) in
     let named : Names (length sc.arrays) (run u i None).verdict =
-    result_names (length sc.arrays) (is_printed u.version) sc o ((exec_all_names sc u.body vs free).names (started u (memory_for u i))) in
-    subst (λ (g : Frame). IsEndOf g e) (sym framed) (record {
+    result_names (length sc.arrays) (is_printed u.version) sc o ((exec_all_names sc u.body vs below).names (started u (memory_for u i))) in
+    record {
       cells = ap length is.arrays ∙ result_count (is_printed u.version) sc o ∙ count;
       names = subst (λ n. NamesBelow n e.verdict) count (names_below (length sc.arrays) e.verdict (subst (Names (length sc.arrays)) (sym is.verdict) named));
-    })
+    }
 
--- what fits a source fits its instrumented unit
-pub fits_guarded : (u : PlainUnit) (i : PlainInputs) → Fit u i → Fit (guarded u) i
-fits_guarded u i h = record { ints = h.ints; cells = h.cells }
+-- each unit that is built is one that the interpreter runs
+pub built_runs : BuiltMakeNoTable → (u : PlainUnit) → IsBuilt AnyText u → IsRunnable u
+built_runs law u (inl source) = inl source.accepted
+built_runs law u (inr printed) = inr (printed.accepted, law u printed.plain)
+
+-- the frame of a source is that of its instrumented unit
+pub guarded_frame : (source unit : PlainUnit) (f : Frame) → unit ≡ guarded source → IsFrameOf source f → IsFrameOf unit f
+guarded_frame source unit f made of = subst (λ (u : PlainUnit). IsFrameOf u f) (sym made) (record { ints = of.ints; arrays = of.arrays })
 
 pub weaker : {X E : Type 0} {P Q : X → Type 0} (N : E → Type 0) (r : Result X E) → ((x : X) → P x → Q x) → MatchResult r P N → MatchResult r Q N
 weaker N (Ok x) f h = f x h

@@ -1,5 +1,4 @@
 pub mod Calls
-pub mod Frames
 pub mod Inputs
 pub mod Met
 pub mod Plans

@@ -16,10 +16,8 @@ use Rattle.balance_cli.specs.Inputs.{IsMeant, IsDataWhy}
 use Rattle.balance_cli.specs.Printed.{IsPrinted}
 use Rattle.balance_cli.specs.Reports.{IsReported}
 use Rattle.balance_cli.specs.Runs.{IsRun, IsTried}
-use Rattle.balance_cli.specs.Sources.{Accepts, IsSourceWhy}
+use Rattle.balance_cli.specs.Sources.{Wanted, Regular, AnyText, AnySource, Accepts, IsSourceWhy}
 use Rattle.balance_cli.specs.Whys.{Why, stop_for}
-use Rattle.balance_cli.specs.declared.judging.Wanted.{Wanted}
-use Rattle.balance_cli.specs.declared.judging.Wanted.TheVariants as wanted
 
 pub data Plan : Type 1 where
   -- load a file, and go on with its bytes
@@ -29,7 +27,7 @@ pub data Plan : Type 1 where
   -- write a text of which this holds, and end so
   give : (is : Output → Type 0) → Plan
 
--- judge a text, of which a source or any text is wanted, and go on with its unit
+-- judge a text, of which this is wanted, and go on with its unit
 abbrev pub judge : Wanted → List ℕ → (PlainUnit → Plan) → Plan
 judge kind text next = ask (Accepts kind text) (IsSourceWhy kind text) next
 
@@ -55,10 +53,10 @@ abbrev pub on_data : List ℕ → (PlainUnit → PlainInputs → Plan) → Plain
 on_data input next unit = load Data input (λ bytes. read unit bytes (next unit))
 
 abbrev pub plan_of : Order → Plan
-plan_of (print source) = load Source source (λ text. judge wanted.Source text printing)
-plan_of (run_file file input) = load File file (λ text. judge wanted.AnyText text (on_data input running))
-plan_of (attempt source input) = load Source source (λ text. judge wanted.Source text (on_data input trying))
-plan_of (report source) = load Source source (λ text. judge wanted.AnySource text reporting)
+plan_of (print source) = load Source source (λ text. judge Regular text printing)
+plan_of (run_file file input) = load File file (λ text. judge AnyText text (on_data input running))
+plan_of (attempt source input) = load Source source (λ text. judge Regular text (on_data input trying))
+plan_of (report source) = load Source source (λ text. judge AnySource text reporting)
 
 -- ---- files, where they are told
 

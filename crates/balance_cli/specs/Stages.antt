@@ -1,27 +1,31 @@
 -- What the stages of the code answer.
-use Rattle.std.specs.Prelude.{◌≡◌, ◌⊎◌, ℕ, ◌≤◌, List, [], ◌∷◌, ◌++◌, length, option_map, Result, Ok, Err}
+use Rattle.std.specs.Prelude.{◌≡◌, ◌⊎◌, ℕ, false, ◌≤◌, List, [], ◌∷◌, ◌++◌, length, option_map, Result, Ok, Err}
 use Rattle.edge.specs.Causes.{Rose}
 use Rattle.edge.specs.Shelf.{Told}
+use Rattle.acceptance.specs.Trees.{IsSourceTree}
+use Rattle.c_tree.specs.Grammar.Texts.{IsText}
+use Rattle.c_tree.specs.Grammar.Tokens.{is_printed}
 use Rattle.c_tree.specs.Plain.{PlainUnit}
 use Rattle.c_tree.specs.Trees.{unit}
 use Rattle.c_tree.specs.declared.frame.Frame.{Frame}
-use Rattle.c_tree.specs.declared.frame.Inputs.{Inputs}
 use Rattle.c_tree.specs.declared.refusal.Refusal.{Refusal}
 use Rattle.c_tree.specs.declared.refusal.Refusal.TheVariants as refusal
-use Rattle.c_tree.specs.declared.unit.Unit.{Unit as TheUnit}
+use Rattle.data_file.specs.Answers.{IsRefused}
+use Rattle.data_file.specs.Conditions.{IsFrame}
+use Rattle.data_file.specs.Frames.{IsFrameOf}
 use Rattle.data_file.specs.declared.refusal.DataRefusal.{DataRefusal}
 use Rattle.data_file.specs.declared.refusal.DataRefusal.TheVariants as data_refusal
-use Rattle.interp.specs.Finished.{inputs_in}
-use Rattle.balance_cli.specs.Inputs.{IsMeant, IsDataWhy}
 use Rattle.command_line.specs.DataRefusals.{data_refusal_text}
-use Rattle.balance_cli.specs.Plans.{IsFile, IsTooLong}
-use Rattle.balance_cli.specs.Sources.{Accepts, Refuses, IsSourceWhy}
-use Rattle.balance_cli.specs.Whys.{StopsFor}
 use Rattle.command_line.specs.Lines.{limit_of}
-use Rattle.balance_cli.specs.declared.judging.Wanted.{Wanted}
 use Rattle.command_line.specs.declared.outcome.FileWord.{FileWord}
 use Rattle.command_line.specs.declared.outcome.Stop.{Stop}
 use Rattle.command_line.specs.declared.outcome.Stop.TheVariants.{ReadFault, TooLong, SourceRefused, DataRefused, NoMemory}
+use Rattle.kernel_check.specs.Judging.{IsLowest}
+use Rattle.balance_cli.specs.Plans.{IsFile, IsTooLong}
+use Rattle.balance_cli.specs.Sources.{Wanted, judged_of, IsBuilt, IsUnbuiltUnit, Refuses, IsSourceWhy}
+use Rattle.balance_cli.specs.Whys.{Why, of_source, of_data, StopsFor}
+use Rattle.balance_cli.specs.declared.runnable.Runnable.{Runnable}
+use Rattle.balance_cli.specs.declared.runnable.Runnable.TheVariants as runnable
 
 -- these names were asked for, and the shelf's files are as they were
 pub record Asks (before now : Told) (names : List (List ℕ)) : Type 0 where
@@ -38,22 +42,59 @@ IsLoad word name before now (Err (SourceRefused why)) = ⊥
 IsLoad word name before now (Err (DataRefused why)) = ⊥
 IsLoad word name before now (Err NoMemory) = Asks before now []
 
--- one text, of which a source or any text is wanted
-abbrev pub IsJudged : Wanted → List ℕ → Result TheUnit Stop → Type 0
-IsJudged kind text (Ok u) = Accepts kind text (unit u)
-IsJudged kind text (Err cause) = StopsFor (IsSourceWhy kind text) cause
+-- ---- one text
 
--- the same with the refusal as it is
-abbrev pub IsTaken : Wanted → List ℕ → Result TheUnit Refusal → Type 0
-IsTaken kind text (Ok u) = Accepts kind text (unit u)
-IsTaken kind text (Err refusal.OutOfMemory) = Unit {0}
-IsTaken kind text (Err why) = Refuses kind text why
+-- the unit of a text that isn't printed
+pub record IsSourceOf (text : List ℕ) (u : PlainUnit) : Type 0 where
+  pub is_text : IsText text u
+  pub plain : is_printed text ≡ false
+  pub tree : IsSourceTree u
+
+-- a unit that is built, with its frame
+pub record IsFramed (wanted : Wanted) (u : PlainUnit) (f : Frame) : Type 0 where
+  pub built : IsBuilt wanted u
+  pub of : IsFrameOf u f
+  pub is : IsFrame f
+
+-- this unit, which is built, with its frame
+pub record IsOwn (wanted : Wanted) (u v : PlainUnit) (f : Frame) : Type 0 where
+  pub same : v ≡ u
+  pub framed : IsFramed wanted v f
+
+-- a unit of a text, with its frame
+pub record IsTaken (wanted : Wanted) (text : List ℕ) (u : PlainUnit) (f : Frame) : Type 0 where
+  pub is_text : IsText text u
+  pub framed : IsFramed wanted u f
+
+-- the unit that is run, and its frame
+abbrev pub unit_of : Runnable → PlainUnit
+unit_of (runnable.Source k) = unit k.unit
+unit_of (runnable.Printed p) = unit p.unit
+
+abbrev pub frame_of : Runnable → Frame
+frame_of (runnable.Source k) = k.frame
+frame_of (runnable.Printed p) = p.frame
+
+-- why a unit isn't taken
+abbrev pub IsUnitWhy : Wanted → PlainUnit → Refusal → Type 0
+IsUnitWhy wanted u why = (why ≡ refusal.OutOfMemory) ⊎ (IsLowest u (judged_of u) why ⊎ ((why ≡ refusal.Unbuilt) × IsUnbuiltUnit wanted u))
+
+-- why a text isn't taken, unless memory is wanting
+abbrev pub IsRefusedFor : Wanted → List ℕ → Refusal → Type 0
+IsRefusedFor wanted text refusal.OutOfMemory = Unit {0}
+IsRefusedFor wanted text why = Refuses wanted text why
+
+-- the cause that this is
+abbrev pub IsSourceStop : Wanted → List ℕ → Stop → Type 0
+IsSourceStop wanted text cause = StopsFor (IsSourceWhy wanted text) cause
+
+-- ---- one data text
 
 -- the cause that a refusal of a data text is, or that memory is wanting
 abbrev pub IsDataStop : Frame → DataRefusal → Stop → Type 0
 IsDataStop f why cause = (cause ≡ NoMemory) ⊎ ((why ≡ data_refusal.OutOfMemory → ⊥) × (cause ≡ DataRefused (data_refusal_text f why)))
 
--- one data text
-abbrev pub IsRead : PlainUnit → List ℕ → Result Inputs Stop → Type 0
-IsRead head text (Ok i) = IsMeant head text (inputs_in i)
-IsRead head text (Err cause) = StopsFor (IsDataWhy head text) cause
+-- the reasons for which a data text is refused by a frame
+abbrev pub IsFrameWhy : Frame → List ℕ → Why → Type 0
+IsFrameWhy f text (of_source why) = ⊥
+IsFrameWhy f text (of_data words) = (why : DataRefusal) × IsRefused f text why × (words ≡ data_refusal_text f why)

@@ -8,7 +8,6 @@ ghost use Rattle.command_line.specs.Orders.{order_of};
 ghost use Rattle.balance_cli.specs.Table.{Cause, AsksInOrder, IsComplete, EndsAsDefined};
 
 use crate::stages::prepared;
-use accepted_laws::one_loop_is_regular;
 use c_lexer::one_reading;
 use c_parser::one_unit;
 use command_line::{
@@ -17,11 +16,11 @@ use command_line::{
 };
 use data_file::{one_answer, some_answer};
 use edge::{Shelf, Sink, write_all};
+use frame_laws::{accepted_units_have_frames, frames_say_the_same, same_frames_act_alike};
 use grammar_reading::unit_or_none;
-use guard_laws::one_loop_guards;
 use kernel_check::refused_or_not;
 use layout_laws::preamble_tells_the_version;
-use one_loop::one_loop_or_not;
+use source_laws::{accepted_sources_are_guarded, accepted_sources_are_printed};
 use std::alloc::Global;
 use tree_texts::{instrumented_units_have_texts, texts_have_trees};
 
@@ -96,14 +95,16 @@ pub fn balance<F: Shelf, O: Sink, E: Sink>(
     one_reading();
     one_unit();
     unit_or_none();
-    one_loop_or_not();
     preamble_tells_the_version();
     texts_have_trees();
     refused_or_not();
     one_answer();
     some_answer();
-    one_loop_guards();
-    one_loop_is_regular();
+    accepted_units_have_frames();
+    frames_say_the_same();
+    same_frames_act_alike();
+    accepted_sources_are_guarded();
+    accepted_sources_are_printed();
     instrumented_units_have_texts();
     answered(alloc, words, shelf, out, err)
 }

@@ -1,12 +1,12 @@
 //! The stage that reads a data text.
 
-ghost use Rattle.std.specs.Prelude.{◌≡◌};
-ghost use Rattle.c_tree.specs.OneLoop.{IsOneLoop};
-ghost use Rattle.c_tree.specs.Trees.{unit as unit_in};
-ghost use Rattle.balance_cli.specs.Stages.{IsDataStop, IsRead};
+ghost use Rattle.std.specs.Prelude.{◌≡◌, MatchResult};
+ghost use Rattle.data_file.specs.Answers.{MeansFitting};
+ghost use Rattle.data_file.specs.Conditions.{IsFrame};
+ghost use Rattle.balance_cli.specs.Stages.{IsDataStop, IsFrameWhy};
+ghost use Rattle.balance_cli.specs.Whys.{StopsFor};
 
-use crate::heads::frame_of;
-use c_tree::{Frame, Inputs, Unit};
+use c_tree::{Frame, Inputs};
 use command_line::{Stop, data_refusal_text};
 use data_file::{DataRefusal, read_data};
 use std::alloc::Global;
@@ -23,14 +23,13 @@ fn told(alloc: Global, frame: &Frame, refusal: DataRefusal) -> Stop
     }
 }
 
-/// The inputs that a data text means by the head of a unit.
-pub fn read(alloc: Global, unit: &Unit, text: &[u8]) -> Result<Inputs, Stop>
-    requires { IsOneLoop (unit_in unit.now) }
-    ensures { IsRead (unit_in unit.now) text.now result }
+/// The inputs that a data text means by a frame.
+pub fn read(alloc: Global, frame: &Frame, text: &[u8]) -> Result<Inputs, Stop>
+    requires { IsFrame frame.now }
+    ensures { MatchResult result (MeansFitting frame.now text.now) (StopsFor (IsFrameWhy frame.now text.now)) }
 {
-    let frame = frame_of(alloc, unit)?;
-    match read_data(alloc, &frame, text) {
+    match read_data(alloc, frame, text) {
         Ok(inputs) => Ok(inputs),
-        Err(refusal) => Err(told(alloc, &frame, refusal)),
+        Err(refusal) => Err(told(alloc, frame, refusal)),
     }
 }

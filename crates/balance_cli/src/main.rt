@@ -1,15 +1,16 @@
-//! Prints the instrumented text of a source, and runs a source or its instrumented unit on a data file. `balance` is
-//! the top call, over any shelf and sinks; `main` gives it the arguments, the files of the system and the standard
-//! streams.
+//! Prints the instrumented text of a source, and runs a source, its instrumented unit or a printed
+//! text on a data file. `balance` is the top call, over any shelf and sinks; `main` gives it the
+//! arguments, the files of the system and the standard streams.
 #![tactic(auto)]
 
 ghost use Rattle.std.specs.Prelude.{◌≡◌, IfOk, drop};
 ghost use Rattle.std.specs.Vec.Iter.{into_iter_items};
 
 mod call;
-mod heads;
+mod checking;
 mod inputs;
 mod judging;
+mod runnable;
 mod runs;
 mod stages;
 

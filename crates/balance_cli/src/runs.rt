@@ -1,21 +1,25 @@
 //! The last stages of the commands that run a unit.
 
-ghost use Rattle.std.specs.Prelude.{◌≡◌, MatchResult};
+ghost use Rattle.std.specs.Prelude.{◌≡◌, IfOk, MatchResult, None};
+ghost use Rattle.acceptance.specs.Runnable.{IsRunnable};
 ghost use Rattle.c_tree.specs.Inputs.{Fit};
-ghost use Rattle.c_tree.specs.OneLoop.{IsOneLoop};
+ghost use Rattle.c_tree.specs.Run as runs;
 ghost use Rattle.c_tree.specs.Trees.{unit as unit_in};
 ghost use Rattle.data_file.specs.Conditions.{IsEndOf};
-ghost use Rattle.interp.specs.Finished.{inputs_in, verdict_in};
+ghost use Rattle.interp.specs.Finished.{inputs_in, verdict_in, IsEnded};
 ghost use Rattle.balance_cli.specs.Runs.{finish_of as finish_at, IsShown, IsRun, IsTried};
+ghost use Rattle.balance_cli.specs.Sources.{AnyText, Regular};
+ghost use Rattle.balance_cli.specs.Stages.{IsFramed, frame_of, unit_of};
 ghost use Rattle.command_line.specs.declared.outcome.Stop.TheVariants.{NoMemory};
 
-use crate::heads::frame_of;
-use c_tree::{Ended, Frame, Inputs, Unit, Verdict};
+use crate::runnable::Runnable;
+use built_forms::built_make_no_table;
+use c_tree::{Ended, Frame, Inputs, OutOfMemory, Unit, Verdict};
 use command_line::{Finish, Output, Stop};
 use data_file::output;
 use edge::ByteList;
-use interp::run;
-use rewrite::instrument_one;
+use kernel_check::Kernel;
+use rewrite::{Options, instrument};
 use std::alloc::Global;
 use tree_texts::instrumented_units_have_texts;
 
@@ -40,26 +44,38 @@ fn shown(alloc: Global, frame: &Frame, ended: &Ended) -> Result<Output, Stop>
     })
 }
 
-/// The output of the run of a source.
-pub fn ran(alloc: Global, unit: &Unit, inputs: &Inputs) -> Result<Output, Stop>
-    requires form { IsOneLoop (unit_in unit.now) }
+// The end of the run of a unit. No unit has 2^31 parameters in earnest.
+fn end_of(alloc: Global, unit: &Unit, inputs: &Inputs) -> Result<Ended, OutOfMemory>
+    requires form { IsRunnable (unit_in unit.now) }
     requires fits { Fit (unit_in unit.now) (inputs_in inputs.now) }
-    ensures { MatchResult result (IsRun (unit_in unit.now) (inputs_in inputs.now)) (λ cause. cause ≡ NoMemory) }
+    ensures { IfOk result (IsEnded (runs.run (unit_in unit.now) (inputs_in inputs.now) None)) }
 {
-    let frame = frame_of(alloc, unit)?;
-    let ended = run(alloc, unit, inputs, None)?;
-    shown(alloc, &frame, &ended)
+    if unit.params.len() < 1 << 31 {
+        interp::run(alloc, unit, inputs, None)
+    } else {
+        Err(OutOfMemory)
+    }
 }
 
-/// The output of the run of a source's instrumented unit.
-pub fn tried(alloc: Global, source: &Unit, inputs: &Inputs) -> Result<Output, Stop>
-    requires form { IsOneLoop (unit_in source.now) }
-    requires fits { Fit (unit_in source.now) (inputs_in inputs.now) }
-    ensures { MatchResult result (IsTried (unit_in source.now) (inputs_in inputs.now)) (λ cause. cause ≡ NoMemory) }
+/// The output of the run of a source or of a printed unit, by its frame.
+pub fn ran(alloc: Global, taken: &Runnable, inputs: &Inputs) -> Result<Output, Stop>
+    requires framed { IsFramed AnyText (unit_of taken.now) (frame_of taken.now) }
+    requires fits { Fit (unit_of taken.now) (inputs_in inputs.now) }
+    ensures { MatchResult result (IsRun (unit_of taken.now) (inputs_in inputs.now)) (λ cause. cause ≡ NoMemory) }
+{
+    built_make_no_table();
+    let ended = end_of(alloc, taken.unit(), inputs)?;
+    shown(alloc, taken.frame(), &ended)
+}
+
+/// The output of the run of a source's instrumented unit, by the source's frame.
+pub fn tried(alloc: Global, source: &Kernel, inputs: &Inputs) -> Result<Output, Stop>
+    requires framed { IsFramed Regular (unit_in source.now.unit) source.now.frame }
+    requires fits { Fit (unit_in source.now.unit) (inputs_in inputs.now) }
+    ensures { MatchResult result (IsTried (unit_in source.now.unit) (inputs_in inputs.now)) (λ cause. cause ≡ NoMemory) }
 {
     instrumented_units_have_texts();
-    let frame = frame_of(alloc, source)?;
-    let guarded = instrument_one(alloc, source)?;
-    let ended = run(alloc, &guarded, inputs, None)?;
-    shown(alloc, &frame, &ended)
+    let guarded = instrument(alloc, source, Options { split: false })?;
+    let ended = end_of(alloc, &guarded, inputs)?;
+    shown(alloc, source.frame(), &ended)
 }

@@ -1,24 +1,25 @@
 //! The stages of a command, up to the text that it writes.
 
-ghost use Rattle.std.specs.Prelude.{◌≡◌, ◌≤◌, MatchResult, length};
+ghost use Rattle.std.specs.Prelude.{◌≡◌, MatchResult};
 ghost use Rattle.acceptance.specs.Sources.{IsAcceptedSource};
-ghost use Rattle.c_tree.specs.OneLoop.{IsOneLoop};
 ghost use Rattle.c_tree.specs.Trees.{unit as unit_in};
+ghost use Rattle.source_laws.specs.Laws.{IsRegularSource};
 ghost use Rattle.command_line.specs.Commands.{ordered};
 ghost use Rattle.command_line.specs.Orders.{print as print_order, run_file as run_order, attempt as attempt_order, report as report_order};
 ghost use Rattle.balance_cli.specs.Plans.{Follows, plan_of};
 ghost use Rattle.balance_cli.specs.Printed.{IsPrinted};
 ghost use Rattle.balance_cli.specs.Reports.{IsReported};
-ghost use Rattle.balance_cli.specs.Stages.{IsLoad, IsJudged};
+ghost use Rattle.balance_cli.specs.Stages.{IsLoad};
 ghost use Rattle.command_line.specs.declared.outcome.Stop.TheVariants.{NoMemory};
 
 use crate::inputs::read;
-use crate::judging::{Wanted, taken};
+use crate::judging::{any_source, any_text, source as source_in};
 use crate::runs::{ran, tried};
-use c_tree::Unit;
 use command_line::{Command, FileWord, Finish, Output, Stop};
+use data_file::fits_as_meant;
 use edge::{ByteList, Loaded, Shelf, ShelfFault};
-use rewrite::instrument_one;
+use kernel_check::Kernel;
+use rewrite::{Options, instrument};
 use std::alloc::Global;
 use tree_texts::instrumented_units_have_texts;
 
@@ -38,22 +39,12 @@ fn loaded<F: Shelf>(
     }
 }
 
-fn judged(alloc: Global, wanted: Wanted, text: &[u8]) -> Result<Unit, Stop>
-    requires { length text.now ≤ 16777216 }
-    ensures { IsJudged wanted text.now result }
-{
-    match taken(alloc, wanted, text) {
-        Ok(unit) => Ok(unit),
-        Err(refusal) => Err(Stop::from(refusal)),
-    }
-}
-
-fn printed(alloc: Global, source: &Unit) -> Result<Output, Stop>
-    requires { IsOneLoop (unit_in source.now) }
-    ensures { MatchResult result (IsPrinted (unit_in source.now)) (λ cause. cause ≡ NoMemory) }
+fn printed(alloc: Global, source: &Kernel) -> Result<Output, Stop>
+    requires { IsRegularSource (unit_in source.now.unit) }
+    ensures { MatchResult result (IsPrinted (unit_in source.now.unit)) (λ cause. cause ≡ NoMemory) }
 {
     instrumented_units_have_texts();
-    let guarded = instrument_one(alloc, source)?;
+    let guarded = instrument(alloc, source, Options { split: false })?;
     let text = c_printer::print(alloc, &guarded)?;
     Ok(Output {
         text: ByteList::new(text),
@@ -65,18 +56,19 @@ fn print<F: Shelf>(alloc: Global, source: &str, shelf: &mut F) -> Result<Output,
     ensures { Follows (plan_of (print_order source.now)) (F.told shelf.old) (F.told shelf.new) result }
 {
     let text = loaded(alloc, FileWord::Source, source, shelf)?;
-    let unit = judged(alloc, Wanted::Source, text.as_slice())?;
-    printed(alloc, &unit)
+    let kernel = source_in(alloc, text.as_slice())?;
+    printed(alloc, &kernel)
 }
 
 fn run_file<F: Shelf>(alloc: Global, file: &str, input: &str, shelf: &mut F) -> Result<Output, Stop>
     ensures { Follows (plan_of (run_order file.now input.now)) (F.told shelf.old) (F.told shelf.new) result }
 {
+    fits_as_meant();
     let text = loaded(alloc, FileWord::File, file, shelf)?;
-    let unit = judged(alloc, Wanted::AnyText, text.as_slice())?;
+    let taken = any_text(alloc, text.as_slice())?;
     let bytes = loaded(alloc, FileWord::Data, input, shelf)?;
-    let inputs = read(alloc, &unit, bytes.as_slice())?;
-    ran(alloc, &unit, &inputs)
+    let inputs = read(alloc, taken.frame(), bytes.as_slice())?;
+    ran(alloc, &taken, &inputs)
 }
 
 fn attempt<F: Shelf>(
@@ -87,18 +79,19 @@ fn attempt<F: Shelf>(
 ) -> Result<Output, Stop>
     ensures { Follows (plan_of (attempt_order source.now input.now)) (F.told shelf.old) (F.told shelf.new) result }
 {
+    fits_as_meant();
     let whole = loaded(alloc, FileWord::Source, source, shelf)?;
-    let unit = judged(alloc, Wanted::Source, whole.as_slice())?;
+    let kernel = source_in(alloc, whole.as_slice())?;
     let bytes = loaded(alloc, FileWord::Data, input, shelf)?;
-    let inputs = read(alloc, &unit, bytes.as_slice())?;
-    tried(alloc, &unit, &inputs)
+    let inputs = read(alloc, kernel.frame(), bytes.as_slice())?;
+    tried(alloc, &kernel, &inputs)
 }
 
-fn reported(alloc: Global, source: &Unit) -> Result<Output, Stop>
-    requires { IsAcceptedSource (unit_in source.now) }
-    ensures { MatchResult result (IsReported (unit_in source.now)) (λ cause. cause ≡ NoMemory) }
+fn reported(alloc: Global, source: &Kernel) -> Result<Output, Stop>
+    requires { IsAcceptedSource (unit_in source.now.unit) }
+    ensures { MatchResult result (IsReported (unit_in source.now.unit)) (λ cause. cause ≡ NoMemory) }
 {
-    let text = reports::report(alloc, source)?;
+    let text = reports::report(alloc, source.unit())?;
     Ok(Output {
         text: ByteList::new(text),
         finish: Finish::Done,
@@ -109,8 +102,8 @@ fn report<F: Shelf>(alloc: Global, source: &str, shelf: &mut F) -> Result<Output
     ensures { Follows (plan_of (report_order source.now)) (F.told shelf.old) (F.told shelf.new) result }
 {
     let text = loaded(alloc, FileWord::Source, source, shelf)?;
-    let unit = judged(alloc, Wanted::AnySource, text.as_slice())?;
-    reported(alloc, &unit)
+    let kernel = any_source(alloc, text.as_slice())?;
+    reported(alloc, &kernel)
 }
 
 /// The stages of a command, in order. The first that fails ends it.

@@ -1,37 +1,59 @@
 //! The instrumented unit of a text.
 
-use crate::sources::source;
-use c_tree::{Refusal, Unit};
-use rewrite::instrument_one;
-use std::alloc::Global;
+use crate::made::instrumented;
+use c_tree::Unit;
+use run_tests::texts::{CUBE, SHIFT};
 
-const SHIFT: &[u8] = b"#pragma balance range n 1 1000
-void shift(int64_t n, uint64_t A[n]) {
-  for (int64_t i = 0; i < n - 1; i++)
-    A[i + 1] = A[i] + 1;
+fn has_words(made: &Unit, wanted: &[(&str, u64)]) -> bool {
+    if made.words.len() != wanted.len() {
+        return false;
+    }
+    for ((name, value), (other, literal)) in made.words.as_slice().iter().zip(wanted) {
+        if name.bytes.as_slice() != other.as_bytes() || value != literal {
+            return false;
+        }
+    }
+    true
 }
-";
 
-fn instrumented(alloc: Global, text: &[u8]) -> Result<Unit, Refusal> {
-    Ok(instrument_one(alloc, &source(alloc, text)?)?)
+fn has_wides(made: &Unit, wanted: &[&str]) -> bool {
+    if made.wides.len() != wanted.len() {
+        return false;
+    }
+    for (name, other) in made.wides.as_slice().iter().zip(wanted) {
+        if name.bytes.as_slice() != other.as_bytes() {
+            return false;
+        }
+    }
+    true
 }
 
 #[test]
 fn instruments_a_shift(rt: HostRuntime) {
-    let Ok(made) = instrumented(rt.alloc(), SHIFT) else {
+    let Ok(made) = instrumented(rt.alloc(), SHIFT.as_bytes()) else {
         panic!(rt; "refused");
     };
     assert_eq!(rt; made.version, Some(1));
     assert_eq!(rt; made.name.bytes.as_slice(), b"bal_fn_shift".as_slice());
-    let wides = ["bal_k", "bal_def0", "bal_use0"];
-    assert_eq!(rt; made.wides.len(), wides.len());
-    for (made, want) in made.wides.as_slice().iter().zip(wides) {
-        assert_eq!(rt; made.bytes.as_slice(), want.as_bytes());
-    }
-    let words = ["bal_r0", "bal_w", "bal_c0", "bal_c1"];
-    assert_eq!(rt; made.words.len(), words.len());
-    for ((made, value), want) in made.words.as_slice().iter().zip(words) {
-        assert_eq!(rt; made.bytes.as_slice(), want.as_bytes());
-        assert_eq!(rt; *value, 0);
-    }
+    assert!(rt; has_wides(&made, &["bal_k", "bal_def0", "bal_use0"]));
+    let words = [("bal_r0", 0), ("bal_w", 0), ("bal_c0", 0), ("bal_c1", 0)];
+    assert!(rt; has_words(&made, &words));
+}
+
+/// Two arrays, and a scalar of its own.
+#[test]
+fn instruments_two_arrays(rt: HostRuntime) {
+    let Ok(made) = instrumented(rt.alloc(), CUBE.as_bytes()) else {
+        panic!(rt; "refused");
+    };
+    let wides = ["bal_k", "bal_def0", "bal_use0", "bal_def1", "bal_use1"];
+    assert!(rt; has_wides(&made, &wides));
+    let words = [
+        ("s", 3),
+        ("bal_r0", 0),
+        ("bal_w", 0),
+        ("bal_c0", 0),
+        ("bal_c1", 0),
+    ];
+    assert!(rt; has_words(&made, &words));
 }

@@ -6,9 +6,8 @@
 mod copies;
 #[cfg(test)]
 mod instruments;
+pub mod made;
 #[cfg(test)]
 mod refusals;
 #[cfg(test)]
 mod runs;
-#[cfg(test)]
-mod sources;

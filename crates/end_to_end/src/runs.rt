@@ -1,133 +1,152 @@
-//! Runs of sources and of their instrumented units, whose ends were worked out by hand.
+//! Runs of the instrumented units of sources, whose ends were worked out by hand.
+//!
+//! A pass turns as the source, and is made once for each cell and once for each write. So where a source
+//! has t turns and w writes, its instrumented unit has t + t * w turns from `begin` on, and before it the
+//! turns of a walk over the cells of each array, and t more for each cell.
 
-ghost use Rattle.std.specs.Prelude.{◌≡◌, ◌≤◌, length, pos, [], ◌∷◌, IfOk, IfSome};
-ghost use Rattle.c_tree.specs.Inputs.{Fit};
-ghost use Rattle.c_tree.specs.OneLoop.{IsOneLoop};
-ghost use Rattle.c_tree.specs.Trees.{unit as unit_in};
-ghost use Rattle.interp.specs.Finished.{inputs_in};
-
-use crate::sources::source;
-use c_tree::{Ended, Inputs, OutOfMemory, Refusal, Unit, Verdict};
-use interp::run;
-use rewrite::instrument_one;
-use sqlite_items::Items;
+use crate::made::tried;
+use c_tree::Refusal;
+use run_tests::ends::{Found, has_cells, has_verdict};
+use run_tests::texts::{CUBE, JACOBI, MIX, PRODUCT, SHIFT, TOO_FAR, TRIANGLE, TWICE};
 use std::alloc::Global;
 use std::test::Fail;
 
-const SHIFT: &[u8] = b"#pragma balance range n 1 1000
-void shift(int64_t n, uint64_t A[n]) {
-  for (int64_t i = 0; i < n - 1; i++)
-    A[i + 1] = A[i] + 1;
-}
-";
-
-/// Its last turn stores behind the end of the array.
-const SHIFT_TOO_FAR: &[u8] = b"#pragma balance range n 1 1000
-void shift(int64_t n, uint64_t A[n]) {
-  for (int64_t i = 0; i < n; i++)
-    A[i + 1] = A[i] + 1;
-}
-";
-
-/// The cells of one array, and their number as the size.
-fn sized(alloc: Global, cells: &[u64]) -> Result<Inputs, OutOfMemory>
-    requires { length cells.now ≤ 4194304 }
-    ensures { IfOk result (λ i. inputs_in i
-        ≡ record { ints = pos (length cells.now) ∷ []; cells = cells.now ∷ [] }) }
-{
-    let mut arrays = Items::new(alloc);
-    arrays.push(Items::from_slice(alloc, cells)?)?;
-    Ok(Inputs {
-        ints: Items::from_slice(alloc, &[cells.len() as i64])?,
-        cells: arrays,
-    })
+/// A source, a data text, the cells that it leaves, and the totals, accesses and turns of its instrumented
+/// unit.
+struct Row {
+    source: &'static str,
+    data: &'static str,
+    cells: &'static [&'static [u64]],
+    totals: &'static [(u128, u128)],
+    accesses: u128,
+    prologue_turns: u128,
+    body_turns: u128,
 }
 
-/// Such inputs, where they fit a source.
-fn inputs(alloc: Global, source: &Unit, cells: &[u64]) -> Result<Option<Inputs>, OutOfMemory>
-    requires { IsOneLoop (unit_in source.now) }
-    ensures { IfOk result (λ given. IfSome given (λ i. Fit (unit_in source.now) (inputs_in i))) }
-{
-    let count = cells.len();
-    match source.ranges.as_slice() {
-        [(_, lowest, highest)] => {
-            if count <= 4194304 && *lowest <= count as i64 && count as i64 <= *highest {
-                Ok(Some(sized(alloc, cells)?))
-            } else {
-                Ok(None)
-            }
-        }
-        _ => Ok(None),
-    }
-}
+const ROWS: [Row; 9] = [
+    Row {
+        source: SHIFT,
+        data: "n = 4\nA = 5 0 0 0\n",
+        cells: &[&[5, 6, 7, 8]],
+        totals: &[(18, 18)],
+        accesses: 6,
+        prologue_turns: 16,
+        body_turns: 12,
+    },
+    Row {
+        source: SHIFT,
+        data: "n = 1\nA = 5\n",
+        cells: &[&[5]],
+        totals: &[(0, 0)],
+        accesses: 0,
+        prologue_turns: 1,
+        body_turns: 0,
+    },
+    Row {
+        source: TWICE,
+        data: "A = 1\nB = 0 0\n",
+        cells: &[&[1], &[1, 1]],
+        totals: &[(2, 2), (0, 0)],
+        accesses: 4,
+        prologue_turns: 9,
+        body_turns: 6,
+    },
+    // t = 39; 27 cells in three walks of 12 turns; 27 writes.
+    Row {
+        source: PRODUCT,
+        data: "n = 3\nA = 1 2 3 4 5 6 7 8 9\nB = 1 0 0 0 1 0 0 0 1\nC = 0 0 0 0 0 0 0 0 0\n",
+        cells: &[
+            &[1, 2, 3, 4, 5, 6, 7, 8, 9],
+            &[1, 0, 0, 0, 1, 0, 0, 0, 1],
+            &[1, 2, 3, 4, 5, 6, 7, 8, 9],
+        ],
+        totals: &[(135, 135), (9, 9), (39, 39)],
+        accesses: 108,
+        prologue_turns: 1089,
+        body_turns: 1092,
+    },
+    // t = 10; 9 cells in a walk of 12 turns; 5 writes.
+    Row {
+        source: TRIANGLE,
+        data: "n = 3\nA = 1 1 1 1 2 3 1 3 6\n",
+        cells: &[&[1, 1, 1, 1, 1, 2, 1, 2, 1]],
+        totals: &[(31, 31)],
+        accesses: 20,
+        prologue_turns: 102,
+        body_turns: 60,
+    },
+    Row {
+        source: JACOBI,
+        data: "t = 3\nn = 2\nA = 4 9\nB = 0 0\n",
+        cells: &[&[4, 9], &[0, 0]],
+        totals: &[(0, 0), (0, 0)],
+        accesses: 0,
+        prologue_turns: 16,
+        body_turns: 3,
+    },
+    Row {
+        source: JACOBI,
+        data: "t = 2\nn = 3\nA = 1 0 2\nB = 0 0 0\n",
+        cells: &[&[1, 3, 2], &[0, 3, 0]],
+        totals: &[(6, 6), (6, 6)],
+        accesses: 10,
+        prologue_turns: 42,
+        body_turns: 30,
+    },
+    // Passes of 6 turns.
+    Row {
+        source: MIX,
+        data: "n = 2\nA = 0 0 0 0\nB = 1 2 3 4\nC = 0 0\n",
+        cells: &[&[2, 0, 3, 0], &[1, 2, 3, 4], &[2, 2]],
+        totals: &[(0, 0), (8, 8), (2, 2)],
+        accesses: 16,
+        prologue_turns: 70,
+        body_turns: 54,
+    },
+    // t = 8; 12 cells in a walk of 2 + 6 + 12 turns, and 3 in one of 3; 9 writes. Two old cells of A are
+    // read, 3 and 5, and two of B, 2 and 3.
+    Row {
+        source: CUBE,
+        data: "n = 2\nA = 1 2 3 4 5 6 7 8 9 10 11 12\nB = 1 2 3\n",
+        cells: &[&[1, 3, 6, 4, 8, 6, 7, 4, 9, 6, 11, 9], &[9, 14, 9]],
+        totals: &[(8, 8), (5, 5)],
+        accesses: 13,
+        prologue_turns: 143,
+        body_turns: 80,
+    },
+];
 
-/// The end of the run of a source.
-fn ran(alloc: Global, text: &[u8], cells: &[u64]) -> Result<Option<Ended>, Refusal> {
-    let source = source(alloc, text)?;
-    match inputs(alloc, &source, cells)? {
-        Some(i) => Ok(Some(run(alloc, &source, &i, None)?)),
-        None => Ok(None),
-    }
-}
-
-/// The end of the run of its instrumented unit.
-fn tried(alloc: Global, text: &[u8], cells: &[u64]) -> Result<Option<Ended>, Refusal> {
-    let source = source(alloc, text)?;
-    match inputs(alloc, &source, cells)? {
-        Some(i) => {
-            let guarded = instrument_one(alloc, &source)?;
-            Ok(Some(run(alloc, &guarded, &i, None)?))
-        }
-        None => Ok(None),
-    }
-}
-
-fn has_cells(ended: &Ended, cells: &[u64]) -> bool {
-    match ended.arrays.as_slice() {
-        [only] => only.as_slice() == cells,
-        _ => false,
+/// Whether the instrumented unit is balanced and ends as the row says.
+fn is_right(alloc: Global, row: &Row) -> Result<bool, Refusal> {
+    match tried(alloc, row.source.as_bytes(), row.data.as_bytes())? {
+        Some(ended) => Ok(
+            has_verdict(&ended, Found::Balanced)
+                && has_cells(&ended, row.cells)
+                && ended.totals.as_slice() == row.totals
+                && ended.tables.is_empty()
+                && ended.accesses == row.accesses
+                && ended.prologue_turns == row.prologue_turns
+                && ended.body_turns == row.body_turns,
+        ),
+        None => Ok(false),
     }
 }
 
 #[test]
-fn a_source_ends_plain(rt: HostRuntime) -> Result<(), Fail> {
-    let ended = ran(rt.alloc(), SHIFT, &[5, 0, 0, 0])?.ok_or("they fit")?;
-    assert!(rt; matches!(ended.verdict, Verdict::Plain));
-    assert!(rt; has_cells(&ended, &[5, 6, 7, 8]));
-    assert!(rt; ended.totals.as_slice().is_empty());
-    assert_eq!(rt; ended.accesses, 6);
-    assert_eq!(rt; ended.prologue_turns, 0);
-    assert_eq!(rt; ended.body_turns, 3);
-    Ok(())
-}
-
-/// The cells 5, 6 and 7 are read once each, and 8 never.
-#[test]
-fn its_instrumented_unit_is_balanced(rt: HostRuntime) -> Result<(), Fail> {
-    let ended = tried(rt.alloc(), SHIFT, &[5, 0, 0, 0])?.ok_or("they fit")?;
-    assert!(rt; matches!(ended.verdict, Verdict::Balanced));
-    assert!(rt; has_cells(&ended, &[5, 6, 7, 8]));
-    assert_eq!(rt; ended.totals.as_slice(), [(18, 18)].as_slice());
-    assert_eq!(rt; ended.accesses, 6);
-    Ok(())
-}
-
-#[test]
-fn nothing_is_read_without_a_turn(rt: HostRuntime) -> Result<(), Fail> {
-    let ended = tried(rt.alloc(), SHIFT, &[5])?.ok_or("they fit")?;
-    assert!(rt; matches!(ended.verdict, Verdict::Balanced));
-    assert!(rt; has_cells(&ended, &[5]));
-    assert_eq!(rt; ended.totals.as_slice(), [(0, 0)].as_slice());
-    assert_eq!(rt; ended.accesses, 0);
+fn instrumented_units_are_balanced(rt: HostRuntime) -> Result<(), Fail> {
+    for row in &ROWS {
+        assert!(rt; is_right(rt.alloc(), row)?, "{}{}", row.source, row.data);
+    }
     Ok(())
 }
 
 /// The last turn's read is made, and its store isn't.
 #[test]
 fn a_store_behind_the_end_is_outside(rt: HostRuntime) -> Result<(), Fail> {
-    let ended = tried(rt.alloc(), SHIFT_TOO_FAR, &[5, 0, 0, 0])?.ok_or("they fit")?;
-    assert!(rt; matches!(ended.verdict, Verdict::Outside(0)));
-    assert!(rt; has_cells(&ended, &[5, 6, 7, 8]));
+    let ended = tried(rt.alloc(), TOO_FAR.as_bytes(), b"n = 4\nA = 5 0 0 0\n")?.ok_or("taken")?;
+    assert!(rt; has_verdict(&ended, Found::Outside(0)));
+    assert!(rt; has_cells(&ended, &[&[5, 6, 7, 8]]));
+    assert!(rt; ended.tables.is_empty());
     assert_eq!(rt; ended.accesses, 7);
     Ok(())
 }

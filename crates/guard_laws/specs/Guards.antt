@@ -18,6 +18,7 @@ use Rattle.instrumentation_laws.specs.RegularUnits.{number_for, wides_for}
 use Rattle.pass_laws.specs.Countable.{AllHaveNoCells}
 use Rattle.pass_laws.specs.Going.{GoesTo, Turned}
 use Rattle.pass_laws.specs.Laws.{HasForms}
+use Rattle.pass_laws.specs.TextTurns.{MakesTurns}
 use Rattle.pass_laws.specs.Places.{IsPlace}
 
 -- ---- without a fault
@@ -89,6 +90,12 @@ PassesTurnAsSource source = (i : PlainInputs) (fault : Option Upset) (target : T
     IsSound source i → AllHaveNoCells target.at → IsPlace (vars_of source.params i.ints) base →
     GoesTo (Turned (turns source i) s) (exec_all (scope_of (arrays_for source i.ints) (wides_for source) fault) (stmts_of (pass_text (number_for source) source.body target site)) base s)
 
+-- ---- turns
+
+-- For all sound inputs and under every fault the unit's body makes the turns of the source, and once more for each write of an array; its prologue walks over the cells of each array, and makes the source's turns for each cell.
+abbrev pub MakesSourceTurns : PlainUnit → PlainUnit → Type 0
+MakesSourceTurns source unit = (i : PlainInputs) (fault : Option Fault) → IsSound source i → MakesTurns source i (run unit i fault)
+
 -- ---- together
 
 -- The unit guards the source.
@@ -107,6 +114,7 @@ pub record GuardsInDetail (source unit : PlainUnit) : Type 0 where
   pub alike : RunsAsSource source unit
   pub ends : EndsOutsideAlike source unit
   pub tables : MakesNoTable source unit
+  pub general : MakesSourceTurns source unit
 
 -- Each source that has these forms, whatever inputs fit, is guarded by its instrumented unit.
 abbrev pub ReadyAreGuarded : Type 0

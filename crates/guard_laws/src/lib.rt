@@ -13,4 +13,5 @@ pub fn ready_sources_are_guarded()
     pass_laws::passes_go_on();
     pass_laws::passes_make_no_table();
     pass_laws::forms_are_ready();
+    pass_laws::units_make_turns();
 }

@@ -33,7 +33,7 @@ gap_is : (z : ℤ) → int_gap (pos 0) z ≡ size_of z
 gap_is (pos n) = grind (arith, ints)
 gap_is (negsuc n) = grind (arith, ints)
 
-values_are : (e : PlainExpr) (vs : Vars) (z : ℤ) → signed e vs ≡ z → loop_values (signed (lit 0) vs) Lt (signed e vs) ≡ from_on (pos 0) (size_of z)
+pub values_are : (e : PlainExpr) (vs : Vars) (z : ℤ) → signed e vs ≡ z → loop_values (signed (lit 0) vs) Lt (signed e vs) ≡ from_on (pos 0) (size_of z)
 values_are e vs z h = ap (λ lo. from_on lo (int_gap lo (signed e vs))) (zero_is vs) ∙ ap (λ z. from_on (pos 0) (int_gap (pos 0) z)) h ∙ ap (from_on (pos 0)) (gap_is z)
 
 pub next_is : (k : ℕ) → pos k +ℤ pos 1 ≡ pos (suc k)
@@ -72,7 +72,7 @@ signed_own (greatest a b) vs x v o h = rw (signed_own a vs x v o h.0, signed_own
 signed_own (widen a) vs x v o h = refl
 signed_own (big high low) vs x v o h = refl
 
-measures_more : (es : PlainExprs) (zs : List ℤ) (vs : Vars) (x : Word) (v : ℤ) → own x ≡ false → Measures es vs zs → Measures es ((x, v) ∷ vs) zs
+pub measures_more : (es : PlainExprs) (zs : List ℤ) (vs : Vars) (x : Word) (v : ℤ) → own x ≡ false → Measures es vs zs → Measures es ((x, v) ∷ vs) zs
 measures_more no_exprs [] vs x v o h = tt
 measures_more no_exprs (z ∷ zs) vs x v o h = absurd h
 measures_more (more_exprs e es) [] vs x v o h = absurd h

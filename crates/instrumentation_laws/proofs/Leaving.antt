@@ -1,5 +1,5 @@
 -- Where the run of a source goes on to its end, whatever fault there is, every access of its list lies within its extents.
-use Rattle.std.proofs.Common.{◌≡◌, ℕ, ◌+◌, Bool, true, false, cond, List, [], ◌∷◌, ◌++◌, map, flat_map, refl, sym, ap, ◌∙◌, subst, ℤ, Option, Some, None}
+use Rattle.std.proofs.Common.{◌≡◌, ℕ, ◌+◌, Bool, true, false, cond, List, [], ◌∷◌, ◌++◌, map, flat_map, refl, sym, ap, ◌∙◌, ℤ, Option}
 use Rattle.std.specs.List.{AllByRecursion}
 use Rattle.c_tree.specs.Plain.{Word, PlainExpr, lit, var, cell, un, bin, cast, test, umin, umax, least, greatest, widen, big, PlainExprs, PlainStmt, loop, choice, assign, table, begin, check, verdict, PlainStmts, no_stmts, more_stmts}
 use Rattle.c_tree.specs.Kinds.{is_signed}
@@ -11,7 +11,7 @@ use Rattle.c_tree.specs.Instances.{Tagged, untagged, sites, sites_all}
 use Rattle.c_tree.specs.Run.{State, Outcome, goes_on, ends, outside, Run, ◌>>◌, and_then, give, Scope, loads, stores, within, word, assigned, set_word, turn, over, exec, exec_all}
 use Rattle.c_tree.specs.declared.expr.BinOp.{BinOp}
 use Rattle.instrumentation.specs.Body.{full}
-use Rattle.instrumentation_laws.specs.RegularSources.{IsArray, AreRegular, IsSilent, IsData, IsTarget, IsSource, AreSource}
+use Rattle.instrumentation_laws.specs.RegularSources.{IsArray, IsSilent, IsData, IsTarget, IsSource, AreSource}
 use Rattle.instrumentation_laws.specs.AccessList.{signed_all, cell_access, cell_reads, cell_write, tag, tests_hold, tagged, tagged_all}
 use Rattle.instrumentation_laws.specs.Setting.{scope_of}
 use Rattle.instrumentation_laws.proofs.Outcomes.{IfGoing, going_then, going_weaker}

@@ -12,7 +12,7 @@ use Rattle.instrumentation_laws.specs.RunningTotals.{read_sum, written_sum}
 use Rattle.instrumentation_laws.specs.PrologueTotals.{cell_sum}
 use Rattle.instrumentation_laws.proofs.CellLoops.{sum_rows, row_sum, next_is}
 
-front : (f : ℕ → ℕ) (n : ℕ) → sum_below f (suc n) ≡ f 0 + sum_below (λ q. f (suc q)) n
+pub front : (f : ℕ → ℕ) (n : ℕ) → sum_below f (suc n) ≡ f 0 + sum_below (λ q. f (suc q)) n
 unfolding sum_below
 front f zero = omega arith
 front f (suc n) = let h = front f n in omega arith

@@ -1,5 +1,5 @@
 -- The prologue with pieces that go on leaves memory, accesses and the words of the source.
-use Rattle.std.proofs.Common.{◌≡◌, ℕ, suc, ◌+◌, ◌*◌, ◌%◌, ◌^◌, Bool, true, false, cond, List, [], ◌∷◌, refl, sym, ap, ◌∙◌, subst, ℤ, Option}
+use Rattle.std.proofs.Common.{◌≡◌, ℕ, suc, ◌+◌, Bool, true, false, cond, List, [], ◌∷◌, refl, sym, ap, ◌∙◌, subst, ℤ, Option}
 use Rattle.c_tree.specs.Plain.{Word, PlainExprs, PlainStmt, PlainStmts}
 use Rattle.c_tree.specs.Instances.{Tagged}
 use Rattle.instrumentation_laws.specs.AccessList.{tagged_all}
@@ -18,7 +18,7 @@ use Rattle.instrumentation_laws.proofs.Names.{apart_as', register_not_own, own_n
 use Rattle.instrumentation_laws.proofs.Outcomes.{MustGo, going_then, going_weaker}
 use Rattle.instrumentation_laws.proofs.Steps.{exec_join}
 use Rattle.instrumentation_laws.proofs.CellLoops.{cells_go}
-use Rattle.instrumentation_laws.proofs.Prologue.{cell_added, cell_text_is}
+use Rattle.instrumentation_laws.proofs.Prologue.{cell_text_is}
 
 pub record Unmoved (s t : State) : Type 0 where
   pub memory : t.memory ≡ s.memory

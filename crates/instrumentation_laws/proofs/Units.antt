@@ -50,14 +50,14 @@ module _ (u t : PlainUnit) (ns : List ℤ) (m : Memory) (fault : Option Upset) (
   abbrev source_run : Outcome (Unit {0})
   source_run = exec_all (scope_of arrays [] fault) u.body vs source_start
 
-  abbrev text_run : Outcome (Unit {0})
+  abbrev pub text_run : Outcome (Unit {0})
   text_run = exec_all sc (stmts_of (text decls cells number pieces u.body)) vs (started t m)
 
-  abbrev list : List Access
+  abbrev pub list : List Access
   list = untagged (tagged_all number 0 u.body vs)
 
   -- the text, and then the verdict
-  abbrev judging : Outcome (Unit {0}) → Outcome (Unit {0})
+  abbrev pub judging : Outcome (Unit {0}) → Outcome (Unit {0})
   judging o = and_then o (λ (v : Unit {0}) x. ends (judged (unbalanced x 0 arrays)) x)
 
   abbrev whole : List PlainStmt
@@ -68,7 +68,7 @@ module _ (u t : PlainUnit) (ns : List ℤ) (m : Memory) (fault : Option Upset) (
       ap (λ (l : List PlainStmt). exec_all sc (stmts_of l) vs (started t m)) (sym (append_assoc (prologue_text cells 0 decls) (begin ∷ instrument_all number pieces 0 u.body) (verdict ∷ []))) ∙
       exec_join sc (text decls cells number pieces u.body) (verdict ∷ []) vs (started t m)
 
-  text_is : run_from t ns m fault ≡ result true sc (judging text_run)
+  pub text_is : run_from t ns m fault ≡ result true sc (judging text_run)
   text_is =
       ap (λ (ps : List PlainParam). run_from (record t { params = ps }) ns m fault) set.text.params ∙
       ap (λ (b : PlainStmts). run_from (record t { params = u.params; body = b }) ns m fault) set.text.body ∙
@@ -119,10 +119,10 @@ module _ (u t : PlainUnit) (ns : List ℤ) (m : Memory) (fault : Option Upset) (
   list_is : IsSourceFor u ns → list ≡ core u ns m
   list_is source = ap untagged (tagged_all_is arrays number u.wides m u.body 0 vs set.setting.source source.1)
 
-  accesses_are : IsSourceFor u ns → list ≡ accesses u ns m
+  pub accesses_are : IsSourceFor u ns → list ≡ accesses u ns m
   accesses_are source = list_is source ∙ sym (append-nil (core u ns m))
 
-  clean_is : IsSourceFor u ns → StaysWithin u ns m → Clean (extents_at arrays) list
+  pub clean_is : IsSourceFor u ns → StaysWithin u ns m → Clean (extents_at arrays) list
   clean_is source clean = subst (λ (l : List Access). Clean (extents_at arrays) l) (sym (list_is source)) clean
 
   -- ---- outside extents
@@ -160,7 +160,7 @@ module _ (u t : PlainUnit) (ns : List ℤ) (m : Memory) (fault : Option Upset) (
   abbrev its_end : Outcome (Unit {0}) → Ended
   its_end o = result true (scope_of its_arrays t.wides fault) (judging u t ns m fault number decls cells pieces (counted_goes set) o)
 
-  end : WhereGoing (Clean (extents_at its_arrays) made) (EndsWith fault m (extents_at its_arrays) made (length decls)) its_text
+  pub end : WhereGoing (Clean (extents_at its_arrays) made) (EndsWith fault m (extents_at its_arrays) made (length decls)) its_text
   end = text_ends its_arrays number t.wides fault (vars_of u.params ns) (extents_at its_arrays) decls u.body cells pieces set.setting (started t m) (start u t ns m fault number decls cells pieces (counted_goes set))
 
   totals_at : (o : Outcome (Unit {0})) → Clean (extents_at its_arrays) made → WhereGoing (Clean (extents_at its_arrays) made) (EndsWith fault m (extents_at its_arrays) made (length decls)) o →

@@ -1,4 +1,6 @@
 pub mod Turns
+pub mod CellRows
+pub mod CellsApart
 pub mod StandsSame
 pub mod StandsCells
 pub mod StandsAccess

@@ -14,12 +14,12 @@ mod lexes;
 #[cfg(test)]
 mod limits;
 #[cfg(test)]
-mod one_loop_form;
-#[cfg(test)]
 mod places;
 #[cfg(test)]
 mod printed_texts;
 mod shown;
 #[cfg(test)]
 mod statements;
+#[cfg(test)]
+mod sums;
 pub mod texts;

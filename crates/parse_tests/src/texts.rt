@@ -5,7 +5,7 @@ use c_parser::parse;
 use c_tree::{Refusal, Unit, preamble};
 use std::alloc::{AllocError, Global};
 
-/// A source of the one-loop form.
+/// A source with one loop over one array.
 pub const SHIFT: &[u8] = b"#include <stdint.h>
 #pragma balance range n 1 1000
 void shift(int64_t n, uint64_t A[n]) {

@@ -21,3 +21,5 @@ pub mod Steady
 pub mod SourceTurns
 pub mod Tables
 pub mod Ready
+pub mod TextTurns
+pub mod UnitTurns

@@ -198,7 +198,7 @@ module _ (arrays : List Array) (number : Word → ℕ) (whole : PlainStmts) (par
   pub site_quiet : (k : ℕ) → AreQuiet false (stmts_of (piece_at (write_pieces_all number whole 0 whole) k))
   site_quiet k = one_quiet (write_pieces_all number whole 0 whole) k (pieces_all_quiet whole 0 params countable)
 
-  coordinates_free : (d : ℕ) (es : PlainExprs) → AllHaveNoCells (coordinates_from d es)
+  pub coordinates_free : (d : ℕ) (es : PlainExprs) → AllHaveNoCells (coordinates_from d es)
   coordinates_free d no_exprs = tt
   coordinates_free d (more_exprs e es) = (tt, coordinates_free (suc d) es)
 

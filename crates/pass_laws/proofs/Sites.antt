@@ -38,7 +38,7 @@ AreNested (v ∷ around) vs = (is_in (around ++ vs) v.0 ≡ false) × AreNested 
 
 -- there are as many pieces as assignments
 mutual
-  pieces_many : (number : Word → ℕ) (whole : PlainStmts) (k : ℕ) (p : PlainStmt) → length (write_pieces number whole k p) ≡ sites p
+  pub pieces_many : (number : Word → ℕ) (whole : PlainStmts) (k : ℕ) (p : PlainStmt) → length (write_pieces number whole k p) ≡ sites p
   pieces_many number whole k (loop x lo rel hi body) = pieces_all_many number whole k body
   pieces_many number whole k (choice ts first other) =
       length-append (write_pieces_all number whole k first) (write_pieces_all number whole (k + sites_all first) other) ∙
@@ -49,7 +49,7 @@ mutual
   pieces_many number whole k (check x extent a) = refl
   pieces_many number whole k verdict = refl
 
-  pieces_all_many : (number : Word → ℕ) (whole : PlainStmts) (k : ℕ) (ps : PlainStmts) → length (write_pieces_all number whole k ps) ≡ sites_all ps
+  pub pieces_all_many : (number : Word → ℕ) (whole : PlainStmts) (k : ℕ) (ps : PlainStmts) → length (write_pieces_all number whole k ps) ≡ sites_all ps
   pieces_all_many number whole k no_stmts = refl
   pieces_all_many number whole k (more_stmts p ps) =
       length-append (write_pieces number whole k p) (write_pieces_all number whole (k + sites p) ps) ∙

@@ -1,21 +1,15 @@
 -- The run of a source makes its turns, under every fault: its loops and tests don't depend on what memory holds.
-use Rattle.std.proofs.Common.{◌≡◌, ℕ, suc, ◌+◌, ◌*◌, ◌^◌, nat_lt, Bool, true, false, not, cond, if◌then◌else◌, List, [], ◌∷◌, sum_by, refl, sym, ap, ◌∙◌, subst, arith, ℤ, pos, Option, Some, None}
-use Rattle.std.specs.Prelude.{bytes_eq, slice_index, slice_set}
-use Rattle.std.specs.List.{list_any}
+use Rattle.std.proofs.Common.{◌≡◌, ℕ, suc, ◌+◌, Bool, true, false, not, cond, List, [], ◌∷◌, sum_by, refl, sym, ap, ◌∙◌, subst, arith, ℤ, None}
 use Rattle.std.proofs.lemmas.List.Sums.{sum_by-cons}
-use Rattle.c_tree.specs.Plain.{Word, PlainExpr, lit, var, cell, un, bin, cast, test, umin, umax, least, greatest, widen, big, PlainExprs, no_exprs, more_exprs, PlainStmt, loop, choice, assign, table, begin, check, verdict, PlainStmts, no_stmts, more_stmts}
-use Rattle.c_tree.specs.Values.{Vars, signed, loop_values, kind, as_word, as_wide, as_bit, word_holds, word_un, word_bin, wide_bin}
-use Rattle.c_tree.specs.Kinds.{is_signed, is_word}
-use Rattle.c_tree.specs.Arrays.{Array, Memory, stored, array_named, is_within, vars_of}
+use Rattle.c_tree.specs.Plain.{Word, PlainStmt, loop, choice, assign, table, begin, check, verdict, PlainStmts, no_stmts, more_stmts}
+use Rattle.c_tree.specs.Values.{Vars, signed, loop_values}
+use Rattle.c_tree.specs.Arrays.{Array, vars_of}
 use Rattle.c_tree.specs.Inputs.{arrays_for, memory_for}
 use Rattle.run_laws.specs.Laws.{GoesThrough, SourcesFollow}
 use Rattle.instrumentation_laws.specs.RegularUnits.{number_for}
-use Rattle.c_tree.specs.Fault.{Upset}
-use Rattle.c_tree.specs.Run.{Event, State, Outcome, goes_on, ends, outside, Run, and_then, ◌>>=◌, give, put, Scope, struck, logged, loads, stores, within, by_array, word, coordinates, first_word, wide, updated, set_word, set_wide, set_entry, assigned, all_hold, turn, over, exec, exec_all, is_printed, started, result}
-use Rattle.c_tree.specs.Run as run
-use Rattle.c_tree.specs.declared.expr.BinOp.{BinOp}
+use Rattle.c_tree.specs.Run.{State, Outcome, goes_on, ends, Run, and_then, Scope, assigned, turn, over, exec, exec_all, is_printed, started, result}
 use Rattle.instrumentation_laws.specs.AccessList.{tests_hold}
-use Rattle.instrumentation_laws.proofs.Steps.{struck_is, logged_is, all_hold_is}
+use Rattle.instrumentation_laws.proofs.Steps.{all_hold_is}
 use Rattle.pass_laws.specs.Countable.{IsCountable, AreCountable}
 use Rattle.pass_laws.specs.Going.{GoesTo, WhereGoing, Turned}
 use Rattle.pass_laws.specs.Laws.{SourcesTurn, UnitsTurn}
@@ -38,17 +32,17 @@ spun_steady (ends e t) s h = tt
 
 -- ---- statements
 
-spun_on : (n m : ℕ) (s t : State) (o : Outcome (Unit {0})) → Spun n s t → WhereGoing (Spun m t) o → WhereGoing (Spun (n + m) s) o
+pub spun_on : (n m : ℕ) (s t : State) (o : Outcome (Unit {0})) → Spun n s t → WhereGoing (Spun m t) o → WhereGoing (Spun (n + m) s) o
 spun_on n m s t o p = going_weaker (Spun m t) (Spun (n + m) s) o (λ u q. spun_then n m s t u p q)
 
 module _ (sc : Scope) (arrays : List Array) (number : Word → ℕ) where
-  over_turns : (f : ℤ → Run (Unit {0})) (n : ℤ → ℕ) → ((v : ℤ) (s : State) → WhereGoing (Spun (n v) s) (f v s)) → (vals : List ℤ) (s : State) → WhereGoing (Spun (sum_by n vals) s) (over f vals s)
+  pub over_turns : (f : ℤ → Run (Unit {0})) (n : ℤ → ℕ) → ((v : ℤ) (s : State) → WhereGoing (Spun (n v) s) (f v s)) → (vals : List ℤ) (s : State) → WhereGoing (Spun (sum_by n vals) s) (over f vals s)
   over_turns f n h [] s = spun_none s
   over_turns f n h (v ∷ vals) s =
       subst (λ k. WhereGoing (Spun k s) (over f (v ∷ vals) s)) (sym (sum_by-cons n v vals))
       (going_then (Spun (n v) s) (Spun (n v + sum_by n vals) s) (f v s) (λ u. over f vals) (h v s) (λ u t p. spun_on (n v) (sum_by n vals) s t (over f vals t) p (over_turns f n h vals t)))
 
-  body_turn : (body : PlainStmts) (vs : Vars) (n : ℕ) → ((s : State) → WhereGoing (Spun n s) (exec_all sc body vs s)) → (s : State) → WhereGoing (Spun (suc n) s) (and_then (turn s) (λ u. exec_all sc body vs))
+  pub body_turn : (body : PlainStmts) (vs : Vars) (n : ℕ) → ((s : State) → WhereGoing (Spun n s) (exec_all sc body vs s)) → (s : State) → WhereGoing (Spun (suc n) s) (and_then (turn s) (λ u. exec_all sc body vs))
   body_turn body vs n h s =
       subst (λ k. WhereGoing (Spun k s) (and_then (turn s) (λ u. exec_all sc body vs))) (let e : 1 + n ≡ suc n = omega arith in e)
       (going_then (Spun 1 s) (Spun (1 + n) s) (turn s) (λ u. exec_all sc body vs) (gone (turn s) (spun_turn s)) (λ u t p. spun_on 1 n s t (exec_all sc body vs t) p (h t)))
@@ -57,7 +51,7 @@ module _ (sc : Scope) (arrays : List Array) (number : Word → ℕ) where
       gone (goes_on u t) p = p
       gone (ends e t) p = absurd p
 
-  chosen_turns : (b : Bool) (n m : ℕ) (s : State) (p q : Run (Unit {0})) → WhereGoing (Spun n s) (p s) → WhereGoing (Spun m s) (q s) → WhereGoing (Spun (cond b n m) s) (cond b p q s)
+  pub chosen_turns : (b : Bool) (n m : ℕ) (s : State) (p q : Run (Unit {0})) → WhereGoing (Spun n s) (p s) → WhereGoing (Spun m s) (q s) → WhereGoing (Spun (cond b n m) s) (cond b p q s)
   chosen_turns true n m s p q h g = h
   chosen_turns false n m s p q h g = g
 

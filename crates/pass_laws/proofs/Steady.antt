@@ -1,8 +1,8 @@
 -- Expressions, tests and assignments make no turn and no table, wherever they go on or end.
-use Rattle.std.proofs.Common.{◌≡◌, ℕ, suc, ◌+◌, ◌*◌, ◌^◌, nat_lt, Bool, true, false, not, cond, if◌then◌else◌, List, [], ◌∷◌, sum_by, refl, sym, ap, ◌∙◌, subst, arith, ℤ, pos, Option, Some, None}
+use Rattle.std.proofs.Common.{◌≡◌, ℕ, ◌+◌, ◌*◌, ◌^◌, nat_lt, Bool, true, false, cond, if◌then◌else◌, List, [], ◌∷◌, refl, sym, ◌∙◌, subst, ℤ, pos, Option, Some, None}
 use Rattle.std.specs.Prelude.{bytes_eq, slice_index, slice_set}
 use Rattle.std.specs.List.{list_any}
-use Rattle.c_tree.specs.Plain.{Word, PlainExpr, lit, var, cell, un, bin, cast, test, umin, umax, least, greatest, widen, big, PlainExprs, no_exprs, more_exprs, PlainTest}
+use Rattle.c_tree.specs.Plain.{PlainExpr, lit, var, cell, un, bin, cast, test, umin, umax, least, greatest, widen, big, PlainExprs, no_exprs, more_exprs, PlainTest}
 use Rattle.c_tree.specs.Values.{Vars, signed, signed_holds, kind, as_word, as_wide, as_bit, word_holds, word_un, word_bin, wide_bin}
 use Rattle.c_tree.specs.Kinds.{join, is_signed, is_word}
 use Rattle.c_tree.specs.Arrays.{Array, Memory, stored, array_named, is_within}

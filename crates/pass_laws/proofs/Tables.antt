@@ -1,15 +1,15 @@
 -- Statements without tables make none, wherever they go on or end; and no instrumented unit has one.
-use Rattle.std.proofs.Common.{◌≡◌, ℕ, suc, ◌+◌, Bool, true, false, cond, List, [], ◌∷◌, ◌++◌, refl, ap, ◌∙◌, subst, sym, zero, ℤ, Option, Some, None, nat_eq}
+use Rattle.std.proofs.Common.{◌≡◌, ℕ, suc, ◌+◌, Bool, true, false, cond, List, [], ◌∷◌, ◌++◌, refl, ap, ◌∙◌, zero, ℤ, Option, Some, None, nat_eq}
 use Rattle.c_tree.specs.Plain.{Word, PlainExpr, lit, var, cell, un, bin, cast, test, umin, umax, least, greatest, widen, big, PlainExprs, no_exprs, more_exprs, PlainStmt, loop, choice, assign, table, begin, check, verdict, PlainStmts, no_stmts, more_stmts, PlainUnit}
 use Rattle.c_tree.specs.Trees.{stmts_of}
-use Rattle.c_tree.specs.Values.{Vars, signed, loop_values, as_word}
+use Rattle.c_tree.specs.Values.{Vars, signed, loop_values}
 use Rattle.c_tree.specs.Arrays.{Memory, arrays_of, vars_of}
 use Rattle.c_tree.specs.Fault.{Upset}
 use Rattle.c_tree.specs.Instances.{sites, sites_all}
-use Rattle.c_tree.specs.Run.{State, Outcome, goes_on, ends, index, Run, and_then, Scope, assigned, all_hold, turn, over, exec, exec_all, struck_at_end, is_printed, started, result, run_from}
+use Rattle.c_tree.specs.Run.{State, Outcome, goes_on, ends, index, Run, and_then, Scope, assigned, all_hold, turn, over, exec, exec_all, is_printed, started, result, run_from}
 use Rattle.instrumentation.specs.Names.{active}
-use Rattle.instrumentation.specs.Body.{full, loads_text, load_text, pure, assigned_text, instrument, instrument_all}
-use Rattle.instrumentation.specs.Passes.{Target, count_reads, count_cell, count_write, write_text, own_write, set_word, copied, copied_all, pass_text, write_piece, write_pieces, write_pieces_all, piece_at, cell_piece}
+use Rattle.instrumentation.specs.Body.{full, loads_text, assigned_text, instrument, instrument_all}
+use Rattle.instrumentation.specs.Passes.{Target, count_reads, count_write, write_text, own_write, set_word, copied, copied_all, pass_text, write_piece, write_pieces, write_pieces_all, piece_at, cell_piece}
 use Rattle.instrumentation.specs.Prologue.{cell_loops, cell_text, array_text, prologue_text}
 use Rattle.instrumentation.specs.Guarded.{arrays_with_extents, guarded}
 use Rattle.instrumentation_laws.proofs.Verdicts.{end_is}

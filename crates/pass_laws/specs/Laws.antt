@@ -4,10 +4,10 @@ use Rattle.c_tree.specs.Plain.{Word, PlainExprs, PlainStmts, PlainUnit}
 use Rattle.c_tree.specs.Trees.{stmts_of}
 use Rattle.c_tree.specs.Values.{Vars}
 use Rattle.c_tree.specs.Arrays.{Array, Memory, extents_at, vars_of}
-use Rattle.c_tree.specs.Fault.{Upset}
+use Rattle.c_tree.specs.Fault.{Fault, Upset}
 use Rattle.c_tree.specs.Instances.{Tagged, core_of, literal_of}
 use Rattle.c_tree.specs.Inputs.{PlainInputs, arrays_for, memory_for, IsClean, IsSound}
-use Rattle.c_tree.specs.Run.{State, Scope, exec_all, turns, run_from}
+use Rattle.c_tree.specs.Run.{State, Scope, exec_all, turns, run_from, run}
 use Rattle.run_laws.specs.Sources as exactly
 use Rattle.run_laws.specs.Laws.{IsSourceFor}
 use Rattle.instrumentation.specs.Passes.{Target, pass_text, cell_piece, write_pieces_all, piece_at}
@@ -22,6 +22,7 @@ use Rattle.instrumentation_laws.specs.WordValues.{AllAssignWords}
 use Rattle.pass_laws.specs.Countable.{AreOwn, AllHaveNoCells, AreCountable, rank}
 use Rattle.pass_laws.specs.Going.{GoesTo, WhereGoing, HasCounters, Leaves, Turned}
 use Rattle.pass_laws.specs.Places.{IsPlace}
+use Rattle.pass_laws.specs.TextTurns.{MakesTurns}
 use Rattle.pass_laws.specs.Turns.{turns_all}
 
 -- ---- passes go on
@@ -138,3 +139,7 @@ pub record IsReady (u : PlainUnit) (i : PlainInputs) : Type 0 where
 -- For sound inputs the first gives the second.
 abbrev pub FormsAreReady : Type 0
 FormsAreReady = (u : PlainUnit) (i : PlainInputs) → HasForms u i → IsSound u i → IsReady u i
+
+-- Then the unit with counting passes makes these turns under every fault.
+abbrev pub UnitsMakeTurns : Type 0
+UnitsMakeTurns = (u : PlainUnit) (i : PlainInputs) (fault : Option Fault) → IsReady u i → IsSound u i → MakesTurns u i (run (guarded u) i fault)

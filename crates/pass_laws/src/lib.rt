@@ -2,7 +2,7 @@
 //! The laws stand on the run's definitions and on what the laws of instrumented texts ask of a piece.
 #![tactic(auto)]
 
-ghost use Rattle.pass_laws.specs.Laws.{CellsArePlaces, FormsAreReady, PassesCount, PassesCountInstances, PassesGoOn, PassesTurn, SourcesTurn, UnitsAreCounted, UnitsGoOn, UnitsHavePieces, UnitsMakeNoTable, UnitsTurn, WritesArePlaces};
+ghost use Rattle.pass_laws.specs.Laws.{CellsArePlaces, FormsAreReady, PassesCount, PassesCountInstances, PassesGoOn, PassesTurn, SourcesTurn, UnitsAreCounted, UnitsGoOn, UnitsHavePieces, UnitsMakeNoTable, UnitsMakeTurns, UnitsTurn, WritesArePlaces};
 
 /// From every state a pass goes on, makes no access, and sets its own two words and the count alone; at its place it makes as many turns as the source.
 pub fn passes_go_on()
@@ -40,3 +40,8 @@ pub fn forms_are_ready()
     passes_go_on();
     passes_count();
 }
+
+/// For sound inputs and under every fault the body of the unit with counting passes makes the turns of the source, and once more for each write of an array; its prologue walks over the cells of each array, and makes the source's turns for each cell.
+pub fn units_make_turns()
+    ensures { UnitsMakeTurns }
+{}

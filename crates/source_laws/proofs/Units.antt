@@ -1,5 +1,5 @@
 -- An accepted source without irregular subscripts is a source of the laws, and ready for its instrumented text.
-use Rattle.std.proofs.Common.{◌≡◌, ◌<◌, ◌^◌, true, List, [], ◌++◌, length, ℤ, sym, ap, subst, arith, append-nil, Option}
+use Rattle.std.proofs.Common.{◌≡◌, true, List, [], ℤ, sym, subst}
 use Rattle.std.specs.List.{AllByRecursion, list_all}
 use Rattle.std.proofs.lemmas.Bool.{not-false}
 use Rattle.c_tree.specs.Plain.{PlainUnit}

@@ -1,18 +1,13 @@
 -- What an accepted source has, for inputs that fit: all that the laws of runs and of instrumented texts ask of it.
-use Rattle.std.specs.Prelude.{◌≡◌, ◌<◌, ◌^◌, true, List, length, ℤ, Option, None}
-use Rattle.c_tree.specs.Plain.{Word, PlainUnit}
-use Rattle.c_tree.specs.Arrays.{vars_of}
+use Rattle.std.specs.Prelude.{◌≡◌, true, List, ℤ, Option, None}
+use Rattle.c_tree.specs.Plain.{PlainUnit}
 use Rattle.c_tree.specs.Fault.{Fault}
-use Rattle.c_tree.specs.Instances.{literal_of, accesses}
-use Rattle.c_tree.specs.Inputs.{PlainInputs, arrays_for, memory_for, AreInRange, Fit, IsClean, IsSound}
+use Rattle.c_tree.specs.Inputs.{PlainInputs, AreInRange, Fit, IsClean, IsSound}
 use Rattle.c_tree.specs.Run.{run}
 use Rattle.run_laws.specs.Laws.{IsSourceFor, RunsThrough}
-use Rattle.instrumentation_laws.specs.RegularUnits.{number_for, IsRegular}
 use Rattle.instrumentation_laws.specs.UnitLaws.{RunsAlike}
-use Rattle.instrumentation_laws.specs.WordValues.{AllAssignWords}
-use Rattle.pass_laws.specs.Countable.{AreOwn, AreCountable}
 use Rattle.pass_laws.specs.Laws.{HasForms, IsReady}
-use Rattle.instrumentation.specs.Guarded.{arrays_with_extents, guarded}
+use Rattle.instrumentation.specs.Guarded.{guarded}
 use Rattle.acceptance.specs.Printed.{IsAcceptedPrinted, StoresNothingBefore}
 use Rattle.acceptance.specs.Trees.{IsPrintedTree}
 use Rattle.acceptance.specs.Runnable.{IsRunnable}

@@ -1,5 +1,5 @@
 -- The inputs of the two sources are sound, and the sums are accepted.
-use Rattle.std.proofs.Common.{[], ◌∷◌, refl, arith, lit<, lit≤, codes, false}
+use Rattle.std.proofs.Common.{refl, arith, lit<, lit≤, codes, false}
 use Rattle.std.proofs.lemmas.Int.{ints}
 use Rattle.c_tree.specs.Instances.{core}
 use Rattle.c_tree.specs.Inputs.{arrays_for, memory_for, IsSound}

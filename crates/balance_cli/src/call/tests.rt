@@ -125,7 +125,7 @@ const NONE: Failing = Failing {
     write: 0,
     line: 0,
     most: 8,
-    room: 9999,
+    room: 99_999,
 };
 
 // What a call leaves.
@@ -161,11 +161,7 @@ fn padded(alloc: Global, source: &Source) -> Result<NamedFile, Fail> {
 }
 
 // Calls with these words over a shelf that has these files.
-fn call(alloc: Global, named: &[Source], line: &str, failing: Failing) -> Result<Left, Fail> {
-    let mut files = FileList::new(alloc);
-    for file in named {
-        files.push(padded(alloc, file)?)?;
-    }
+fn called(alloc: Global, files: FileList, line: &str, failing: Failing) -> Result<Left, Fail> {
     let mut shelf = MemShelf::new(alloc, files, one_number(alloc, failing.load)?);
     let mut out = MemSink::new(
         alloc,
@@ -182,6 +178,14 @@ fn call(alloc: Global, named: &[Source], line: &str, failing: Failing) -> Result
         err,
         loads: shelf.asked.len(),
     })
+}
+
+fn call(alloc: Global, named: &[Source], line: &str, failing: Failing) -> Result<Left, Fail> {
+    let mut files = FileList::new(alloc);
+    for file in named {
+        files.push(padded(alloc, file)?)?;
+    }
+    called(alloc, files, line, failing)
 }
 
 const SHIFT_FILE: Source = Source {
@@ -227,7 +231,7 @@ fn prints_the_instrumented_text(rt: HostRuntime) -> Result<(), Fail> {
 fn ends_by_the_table(rt: HostRuntime) -> Result<(), Fail> {
     let other = Source {
         name: "shift.c",
-        text: OTHER_BOUND,
+        text: GATHER,
         length: 0,
     };
     let load = Failing { load: 1, ..NONE };
@@ -396,7 +400,7 @@ A[i + 1] = A[i]",
     ),
     (PRINTED, "print p.c", "balance: p.c: S3 Syntax at byte 0\n"),
     (PRINTED, "try p.c d1", "balance: p.c: S3 Syntax at byte 0\n"),
-    (PRINTED, "run p.c d1", "balance: p.c: S0 Unbuilt\n"),
+    (GATHER, "run p.c d1", "balance: p.c: S0 Unbuilt\n"),
 ];
 
 #[test]
@@ -416,12 +420,6 @@ fn refuses_texts(rt: HostRuntime) -> Result<(), Fail> {
     Ok(())
 }
 
-const WIDE_FILE: Source = Source {
-    name: "wide.c",
-    text: WIDE,
-    length: 0,
-};
-
 // A data file named d1.
 fn data_file(text: &'static str) -> Source {
     Source {
@@ -435,43 +433,161 @@ const SHIFT_DATA: &str = "n = 4\nA = 5 0 0 0\n";
 
 const BALANCED: &str = "A = 5 6 7 8\nbalanced\n";
 
+// The source in the file k.c, the words, the data, the status and the output.
+const RUNS: [(&str, &str, &str, Status, &str); 9] = [
+    (SHIFT, "try k.c d1", SHIFT_DATA, Status::Done, BALANCED),
+    (
+        SHIFT,
+        "run k.c d1",
+        SHIFT_DATA,
+        Status::Done,
+        "A = 5 6 7 8\nplain\n",
+    ),
+    (
+        SHIFT,
+        "try k.c d1",
+        "n = 1\nA = 5\n",
+        Status::Done,
+        "A = 5\nbalanced\n",
+    ),
+    (
+        WIDE,
+        "try k.c d1",
+        SHIFT_DATA,
+        Status::Outside,
+        "A = 5 6 7 8\noutside A\n",
+    ),
+    (
+        PRODUCTS,
+        "try k.c d1",
+        "n = 3\nA = 1 2 3 4 5 6 7 8 9\nB = 1 0 0 0 1 0 0 0 1\nC = 0 0 0 0 0 0 0 0 0\n",
+        Status::Done,
+        "C = 1 2 3 4 5 6 7 8 9\nbalanced\n",
+    ),
+    (
+        TRIANGLE,
+        "try k.c d1",
+        "n = 3\nA = 1 1 1 1 2 3 1 3 6\n",
+        Status::Done,
+        "A = 1 1 1 1 1 2 1 2 1\nbalanced\n",
+    ),
+    (
+        STEPS,
+        "try k.c d1",
+        "t = 3\nn = 2\nA = 4 9\nB = 0 0\n",
+        Status::Done,
+        "A = 4 9\nB = 0 0\nbalanced\n",
+    ),
+    (
+        STEPS,
+        "try k.c d1",
+        "t = 2\nn = 3\nA = 1 0 2\nB = 0 0 0\n",
+        Status::Done,
+        "A = 1 3 2\nB = 0 3 0\nbalanced\n",
+    ),
+    (
+        MIX,
+        "try k.c d1",
+        MIX_DATA,
+        Status::Done,
+        "A = 2 0 3 0\nC = 2 2\nbalanced\n",
+    ),
+];
+
 #[test]
 fn runs_on_data(rt: HostRuntime) -> Result<(), Fail> {
-    for (source, line, values, status, text) in [
+    for (text, line, values, status, out) in RUNS {
+        let source = Source {
+            name: "k.c",
+            text,
+            length: 0,
+        };
+        let left = call(rt.alloc(), &[source, data_file(values)], line, NONE)?;
+        assert_eq!(rt; left.status, status, "{values}");
+        assert_eq!(rt; left.loads, 2, "{values}");
+        assert_eq!(rt; left.out.bytes.as_slice(), out.as_bytes(), "{values}");
+        assert_eq!(rt; left.err.bytes.as_slice(), b"".as_slice(), "{values}");
+    }
+    Ok(())
+}
+
+// The output of `run` on the text that `print` writes of a source.
+fn run_of_printed(alloc: Global, text: &'static str, values: &'static str) -> Result<Left, Fail> {
+    let source = Source {
+        name: "k.c",
+        text,
+        length: 0,
+    };
+    let printed = call(alloc, &[source], "print k.c", NONE)?;
+    let mut files = FileList::new(alloc);
+    files.push(NamedFile::new(
+        String::from_str(alloc, "k.out.c")?,
+        ByteList::new(Vec::from_slice(alloc, printed.out.bytes.as_slice())?),
+    ))?;
+    files.push(padded(alloc, &data_file(values))?)?;
+    called(alloc, files, "run k.out.c d1", NONE)
+}
+
+#[test]
+fn runs_what_it_prints(rt: HostRuntime) -> Result<(), Fail> {
+    for (text, values, status, out) in [
+        (SHIFT, SHIFT_DATA, Status::Done, BALANCED),
+        (OTHER_BOUND, SHIFT_DATA, Status::Done, BALANCED),
         (
-            SHIFT_FILE,
-            "try shift.c d1",
-            SHIFT_DATA,
-            Status::Done,
-            BALANCED,
-        ),
-        (
-            SHIFT_FILE,
-            "run shift.c d1",
-            SHIFT_DATA,
-            Status::Done,
-            "A = 5 6 7 8\nplain\n",
-        ),
-        (
-            SHIFT_FILE,
-            "try shift.c d1",
-            "n = 1\nA = 5\n",
-            Status::Done,
-            "A = 5\nbalanced\n",
-        ),
-        (
-            WIDE_FILE,
-            "try wide.c d1",
+            WIDE,
             SHIFT_DATA,
             Status::Outside,
             "A = 5 6 7 8\noutside A\n",
         ),
+        (
+            MIX,
+            MIX_DATA,
+            Status::Done,
+            "A = 2 0 3 0\nC = 2 2\nbalanced\n",
+        ),
     ] {
-        let left = call(rt.alloc(), &[source, data_file(values)], line, NONE)?;
-        assert_eq!(rt; left.status, status, "{line}");
-        assert_eq!(rt; left.loads, 2, "{line}");
-        assert_eq!(rt; left.out.bytes.as_slice(), text.as_bytes(), "{line}");
-        assert_eq!(rt; left.err.bytes.as_slice(), b"".as_slice(), "{line}");
+        let left = run_of_printed(rt.alloc(), text, values)?;
+        assert_eq!(rt; left.status, status, "{values}");
+        assert_eq!(rt; left.out.bytes.as_slice(), out.as_bytes(), "{values}");
+        assert_eq!(rt; left.err.bytes.as_slice(), b"".as_slice(), "{values}");
+    }
+    Ok(())
+}
+
+// What is said of the printed text of the shift, where one piece is changed.
+fn told_of_changed(alloc: Global, from: &str, to: &str) -> Result<Left, Fail> {
+    let (before, after) = PRINTED.split_once(from).unwrap_or((PRINTED, ""));
+    let mut bytes = Vec::from_slice(alloc, before.as_bytes())?;
+    bytes.extend_from_slice(to.as_bytes())?;
+    bytes.extend_from_slice(after.as_bytes())?;
+    let mut files = FileList::new(alloc);
+    files.push(NamedFile::new(String::from_str(alloc, "p.c")?, ByteList::new(bytes)))?;
+    files.push(padded(alloc, &data_file(SHIFT_DATA))?)?;
+    called(alloc, files, "run p.c d1", NONE)
+}
+
+#[test]
+fn refuses_changed_texts(rt: HostRuntime) -> Result<(), Fail> {
+    for (from, to, front) in [
+        (
+            "#pragma balance begin\n",
+            "",
+            "balance: p.c: S3 Syntax at byte ",
+        ),
+        (
+            "bal_use0 +=",
+            "bal_other +=",
+            "balance: p.c: S5 NameUnknown in item 14\n",
+        ),
+        ("A[bal_i0];", "A[bal_w];", "balance: p.c: S0 Unbuilt\n"),
+    ] {
+        let left = told_of_changed(rt.alloc(), from, to)?;
+        assert_eq!(rt; left.status, Status::SourceRefused, "{from}");
+        assert!(rt;
+            left.err.bytes.as_slice().starts_with(front.as_bytes()),
+            "{from}"
+        );
+        assert_eq!(rt; left.out.bytes.as_slice(), b"".as_slice(), "{from}");
     }
     Ok(())
 }
@@ -607,6 +723,35 @@ void mix(int64_t n, uint64_t A[2 * n], const uint64_t B[2 * n], uint64_t C[n]) {
 for (int64_t i = 0; i < n; i++) for (int64_t j = 0; j < n; j++) { A[2 * i] = B[i + j]; C[i] = C[i] + 1; }\n\
 }\n";
 
+const MIX_DATA: &str = "n = 2\nA = 0 0 0 0\nB = 1 2 3 4\nC = 0 0\n";
+
+// A product of matrices.
+const PRODUCTS: &str = "#include <stdint.h>\n\
+/* C += A * B */\n\
+#pragma scop\n\
+#pragma balance range n 1 500\n\
+void mm(int64_t n, const uint64_t A[n][n], const uint64_t B[n][n], uint64_t C[n][n]) {\n  \
+for (int64_t i = 0; i < n; i++) for (int64_t j = 0; j < n; j++) for (int64_t k = 0; k < n; k++)\n    \
+C[i][j] += A[i][k] * B[k][j];\n\
+}\n";
+
+// A nest whose loops begin and end at the variables of others.
+const TRIANGLE: &str = "#pragma balance range n 1 500\n\
+void tri(int64_t n, uint64_t A[n][n]) {\n  \
+for (int64_t k = 0; k < n - 1; k++) for (int64_t i = k + 1; i < n; i++) for (int64_t j = k + 1; j < n; j++)\n    \
+A[i][j] = A[i][j] - A[i][k] * A[k][j];\n\
+}\n";
+
+// Two loops in turn, in a loop.
+const STEPS: &str = "#pragma balance range t 0 1000\n\
+#pragma balance range n 2 1000\n\
+void jac(int64_t t, int64_t n, uint64_t A[n], uint64_t B[n]) {\n  \
+for (int64_t s = 0; s < t; s++) {\n    \
+for (int64_t i = 1; i < n - 1; i++) B[i] = A[i - 1] + A[i + 1];\n    \
+for (int64_t i = 1; i < n - 1; i++) A[i] = B[i];\n  \
+}\n\
+}\n";
+
 // A read through an index array.
 const GATHER: &str = "#pragma balance range n 1 1000\n\
 #pragma balance range m 1 1000\n\
@@ -619,81 +764,113 @@ void shift(int64_t n, uint64_t A[n]) {\n  \
 for (int64_t i = 0; i < n - 1; i++) A[i * n] = 1;\n\
 }\n";
 
+const SCATTER: &str = "#pragma balance range n 1 1000\n\
+void shift(int64_t n, const uint64_t P[n], uint64_t A[n]) {\n  \
+for (int64_t i = 0; i < n - 1; i++) A[P[i]] = 1;\n\
+}\n";
+
+const OWN_NAME: &str = "#pragma balance range n 1 1000\n\
+void shift(int64_t n, uint64_t A[n]) {\n  \
+uint64_t bal_x = 0;\n  \
+for (int64_t i = 0; i < n - 1; i++) A[i] = bal_x;\n\
+}\n";
+
+const NO_DIVISOR: &str = "#pragma balance range n 1 1000\n\
+void shift(int64_t n, uint64_t A[n]) {\n  \
+for (int64_t i = 0; i < n - 1; i++) A[i] = A[i] / 0;\n\
+}\n";
+
+const WRITTEN_INDEX: &str = "#pragma balance range n 1 1000\n\
+void shift(int64_t n, uint64_t P[n], uint64_t A[n]) {\n  \
+for (int64_t i = 0; i < n - 1; i++) A[i] = A[P[i]];\n\
+}\n";
+
+const TWICE: &str = "#pragma balance range n 1 1000\n\
+void shift(int64_t n, int64_t n, uint64_t A[n]) {\n  \
+for (int64_t i = 0; i < n - 1; i++) A[i + 1] = A[i] + 1;\n\
+}\n";
+
+const UNKNOWN: &str = "#pragma balance range n 1 1000\n\
+void shift(int64_t n, uint64_t A[n]) {\n  \
+for (int64_t i = 0; i < n - 1; i++) A[i] = q;\n\
+}\n";
+
+const NO_RANGE: &str = "void shift(int64_t n, uint64_t A[n]) {\n  \
+for (int64_t i = 0; i < n - 1; i++) A[i + 1] = A[i] + 1;\n\
+}\n";
+
 const DEEP: &str = "void deep(uint64_t A[2]) {\n\
 for (int64_t a = 0; a < 2; a++) for (int64_t b = 0; b < 2; b++) for (int64_t c = 0; c < 2; c++)\n\
 for (int64_t d = 0; d < 2; d++) for (int64_t e = 0; e < 2; e++) for (int64_t f = 0; f < 2; f++)\n\
 for (int64_t g = 0; g < 2; g++) A[0] = 1;\n\
 }\n";
 
+// Sources in the file k.c that aren't accepted, and what is said of them.
+const UNACCEPTED: [(&str, &str); 9] = [
+    (PRODUCT, "balance: k.c: S9 NotAffine in item 2\n"),
+    (SCATTER, "balance: k.c: S17 IrregularWrite in item 2\n"),
+    (DEEP, "balance: k.c: S8 TooMany depth 7 in item 7\n"),
+    (OWN_NAME, "balance: k.c: S6 ReservedName in item 0\n"),
+    (NO_DIVISOR, "balance: k.c: S16 BadLiteral in item 2\n"),
+    (WRITTEN_INDEX, "balance: k.c: S15 BadIndexArray in item 2\n"),
+    (TWICE, "balance: k.c: S4 NameTwice in item 0\n"),
+    (UNKNOWN, "balance: k.c: S5 NameUnknown in item 2\n"),
+    (NO_RANGE, "balance: k.c: S7 BadRange in item 0\n"),
+];
+
 #[test]
-fn refuses_units_and_reports(rt: HostRuntime) -> Result<(), Fail> {
-    for (text, line, status, out, told) in [
+fn refuses_sources(rt: HostRuntime) -> Result<(), Fail> {
+    for (text, told) in UNACCEPTED {
+        let source = Source {
+            name: "k.c",
+            text,
+            length: 0,
+        };
+        let left = call(rt.alloc(), &[source], "try k.c d1", NONE)?;
+        assert_eq!(rt; left.status, Status::SourceRefused, "{told}");
+        assert_eq!(rt; left.loads, 1, "{told}");
+        assert_eq!(rt; left.err.bytes.as_slice(), told.as_bytes());
+    }
+    Ok(())
+}
+
+#[test]
+fn reports(rt: HostRuntime) -> Result<(), Fail> {
+    for (text, status, out, told) in [
         (
             MIX,
-            "report shift.c",
             Status::Done,
             "A counted reads 0 writes 1\nB counted reads 1 writes 0\nC difference reads 1 writes 1\n",
             "",
         ),
         (
             GATHER,
-            "report shift.c",
             Status::Done,
             "P difference reads 1 writes 0\nX inspected reads 1 writes 0\nY difference reads 0 writes 1\n",
             "",
         ),
         (
-            MIX,
-            "print shift.c",
-            Status::SourceRefused,
-            "",
-            "balance: shift.c: S0 Unbuilt\n",
-        ),
-        (
             PRODUCT,
-            "print shift.c",
             Status::SourceRefused,
             "",
-            "balance: shift.c: S9 NotAffine in item 2\n",
-        ),
-        (
-            PRODUCT,
-            "report shift.c",
-            Status::SourceRefused,
-            "",
-            "balance: shift.c: S9 NotAffine in item 2\n",
-        ),
-        (
-            DEEP,
-            "run shift.c d1",
-            Status::SourceRefused,
-            "",
-            "balance: shift.c: S8 TooMany depth 7 in item 7\n",
+            "balance: k.c: S9 NotAffine in item 2\n",
         ),
         (
             PRINTED,
-            "report shift.c",
             Status::SourceRefused,
             "",
-            "balance: shift.c: S3 Syntax at byte 0\n",
-        ),
-        (
-            PRINTED,
-            "run shift.c d1",
-            Status::SourceRefused,
-            "",
-            "balance: shift.c: S0 Unbuilt\n",
+            "balance: k.c: S3 Syntax at byte 0\n",
         ),
     ] {
         let source = Source {
-            name: "shift.c",
+            name: "k.c",
             text,
             length: 0,
         };
-        let left = call(rt.alloc(), &[source], line, NONE)?;
-        assert_eq!(rt; left.status, status, "{line}");
-        assert_eq!(rt; left.out.bytes.as_slice(), out.as_bytes(), "{line}");
-        assert_eq!(rt; left.err.bytes.as_slice(), told.as_bytes(), "{line}");
+        let left = call(rt.alloc(), &[source], "report k.c", NONE)?;
+        assert_eq!(rt; left.status, status, "{told}");
+        assert_eq!(rt; left.out.bytes.as_slice(), out.as_bytes(), "{told}");
+        assert_eq!(rt; left.err.bytes.as_slice(), told.as_bytes());
     }
     Ok(())
 }

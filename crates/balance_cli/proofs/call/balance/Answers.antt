@@ -21,18 +21,22 @@ returns-clause-complete g c = complete (record {
     apart = c.one_reading.ensures.not_both;
     tokens = c.one_reading.ensures.tokens_or_stop;
     units = units_of c.one_reading.ensures.tokens_or_stop c.one_reading.ensures.not_both c.one_reading.ensures.one_list c.unit_or_none.ensures;
-    forms = c.one_loop_or_not.ensures;
     versions = c.preamble_tells_the_version.ensures;
     trees = c.texts_have_trees.ensures;
     refused = refused_as c.refused_or_not.ensures.source c.refused_or_not.ensures.printed;
-    accepted = c.one_loop_is_regular.ensures.source;
   };
-  one_answer = c.one_answer.ensures;
-  some_answer = c.some_answer.ensures;
-  guards = c.one_loop_guards.ensures;
-  accepted = c.one_loop_is_regular.ensures.accepted;
-  stores = c.one_loop_is_regular.ensures.stores;
-  printed = c.instrumented_units_have_texts.ensures.one_loop;
+  data_texts = record {
+    one_answer = c.one_answer.ensures;
+    some_answer = c.some_answer.ensures;
+    alike = c.frames_say_the_same.ensures;
+    read = c.same_frames_act_alike.ensures.read;
+  };
+  source_frames = c.accepted_units_have_frames.ensures.sources;
+  printed_frames = c.accepted_units_have_frames.ensures.printed;
+  guards = c.accepted_sources_are_guarded.ensures;
+  accepted = c.accepted_sources_are_printed.ensures.printed;
+  stores = c.accepted_sources_are_printed.ensures.stores;
+  printed = c.instrumented_units_have_texts.ensures.accepted;
 }) _ _ _ c.answered.ensures
 
 pub returns-clause-determined : goal.returns-clause-determined
@@ -42,16 +46,20 @@ returns-clause-determined g c = determined_end (record {
     apart = c.one_reading.ensures.not_both;
     tokens = c.one_reading.ensures.tokens_or_stop;
     units = units_of c.one_reading.ensures.tokens_or_stop c.one_reading.ensures.not_both c.one_reading.ensures.one_list c.unit_or_none.ensures;
-    forms = c.one_loop_or_not.ensures;
     versions = c.preamble_tells_the_version.ensures;
     trees = c.texts_have_trees.ensures;
     refused = refused_as c.refused_or_not.ensures.source c.refused_or_not.ensures.printed;
-    accepted = c.one_loop_is_regular.ensures.source;
   };
-  one_answer = c.one_answer.ensures;
-  some_answer = c.some_answer.ensures;
-  guards = c.one_loop_guards.ensures;
-  accepted = c.one_loop_is_regular.ensures.accepted;
-  stores = c.one_loop_is_regular.ensures.stores;
-  printed = c.instrumented_units_have_texts.ensures.one_loop;
+  data_texts = record {
+    one_answer = c.one_answer.ensures;
+    some_answer = c.some_answer.ensures;
+    alike = c.frames_say_the_same.ensures;
+    read = c.same_frames_act_alike.ensures.read;
+  };
+  source_frames = c.accepted_units_have_frames.ensures.sources;
+  printed_frames = c.accepted_units_have_frames.ensures.printed;
+  guards = c.accepted_sources_are_guarded.ensures;
+  accepted = c.accepted_sources_are_printed.ensures.printed;
+  stores = c.accepted_sources_are_printed.ensures.stores;
+  printed = c.instrumented_units_have_texts.ensures.accepted;
 }) _ _ _ c.answered.ensures

@@ -1,29 +1,22 @@
-use Rattle.std.proofs.Common.{refl, ap, ◌∙◌}
-use Rattle.c_tree.specs.Trees.{unit}
-use Rattle.interp.specs.Finished.{inputs_in}
-use Rattle.data_file.specs.Texts.{output_text}
-use Rattle.balance_cli.specs.Runs.{finish_of}
-use Rattle.balance_cli.proofs.Framed.{few_params}
-use Rattle.balance_cli.proofs.Shown.{ends_of, weaker}
-use Rattle.balance_cli.proofs.Unchecked.{form_unchecked}
+use Rattle.std.proofs.Common.{None, sym, subst}
+use Rattle.acceptance.specs.Runnable.{IsRunnable}
+use Rattle.c_tree.specs.Plain.{PlainUnit}
+use Rattle.c_tree.specs.Run as runs
+use Rattle.c_tree.specs.declared.frame.Frame.{Frame}
+use Rattle.data_file.specs.Conditions.{IsEndOf}
+use Rattle.interp.specs.Finished.{inputs_in, IsEnded}
+use Rattle.balance_cli.specs.Stages.{frame_of, unit_of}
+use Rattle.balance_cli.proofs.Shown.{built_runs, ends_of}
 use Rattle.balance_cli.proofs.runs.ran.Goals as goal
 
-pub frame_of-requires : goal.frame_of-requires
-frame_of-requires c = few_params c.args.unit.now c.requires.form
-
-pub run-requires-clause-few : goal.run-requires-clause-few
-run-requires-clause-few c = few_params c.args.unit.now c.requires.form
+pub end_of-requires-clause-form : goal.end_of-requires-clause-form
+end_of-requires-clause-form c = subst IsRunnable (sym c.unit.ensures) (built_runs c.built_make_no_table.ensures (unit_of c.args.taken.now) c.requires.framed.built)
 
 pub shown-requires : goal.shown-requires
 shown-requires c =
-    let u = unit c.args.unit.now in
-    ends_of c.in_ok-frame.frame u u (inputs_in c.args.inputs.now) c.in_ok-ended.ended c.in_ok-frame.ensures refl (form_unchecked u c.requires.form) c.in_ok-ended.ensures.ended
-
-pub returns : goal.returns
-returns c =
-    weaker _ c.shown.result (λ output is. record {
-      ended = c.in_ok-ended.ended;
-      is = c.in_ok-ended.ensures.ended;
-      text = is.text ∙ ap (λ f. output_text f c.in_ok-ended.ended) c.in_ok-frame.ensures;
-      finish = is.finish ∙ ap finish_of c.in_ok-ended.ensures.ended.verdict;
-    }) c.shown.ensures
+    let u = unit_of c.args.taken.now in
+    let i = inputs_in c.args.inputs.now in
+    let e = c.in_ok-ended.ended in
+    let P : PlainUnit → Type 0 = λ v. IsEnded (runs.run v i None) e in
+    let Q : Frame → Type 0 = λ f. IsEndOf f e in
+    subst Q (sym c.frame.ensures) (ends_of (frame_of c.args.taken.now) u i e (built_runs c.built_make_no_table.ensures u c.requires.framed.built) c.requires.framed.of (subst P c.unit.ensures c.in_ok-ended.ensures))

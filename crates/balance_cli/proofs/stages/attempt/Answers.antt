@@ -1,10 +1,8 @@
 use Rattle.std.proofs.lemmas.Result.{err_from_is_err_and}
 use Rattle.c_tree.specs.Trees.{unit}
-use Rattle.interp.specs.Finished.{inputs_in}
-use Rattle.balance_cli.proofs.Framed.{fits_meant}
-use Rattle.balance_cli.proofs.Plans.{follows_load, follows_stop, follows_judged, follows_refused, follows_read, follows_unread, follows_given}
+use Rattle.balance_cli.proofs.Plans.{follows_load, follows_stop, follows_judged, follows_refused, follows_read, follows_unread, follows_given, fits_by}
 use Rattle.balance_cli.specs.Plans.{read, trying, on_data}
-use Rattle.balance_cli.specs.declared.judging.Wanted.TheVariants.{Source}
+use Rattle.balance_cli.specs.Sources.{Regular}
 use Rattle.command_line.specs.declared.outcome.FileWord.TheVariants.{Data}
 use Rattle.balance_cli.proofs.stages.attempt.Goals as goal
 
@@ -13,35 +11,40 @@ returns-in_err-whole g c =
     let p = err_from_is_err_and c.from_residual.result c.from_residual.ensures.1 in
     rw (p.1, p.2) (follows_stop _ _ _ _ _ _ c.in_err-whole.ensures)
 
-pub returns-in_err-unit : goal.returns-in_err-unit
-returns-in_err-unit g c =
-    let p = err_from_is_err_and c.from_residual-in_err-unit.result c.from_residual-in_err-unit.ensures.1 in
+pub returns-in_err-kernel : goal.returns-in_err-kernel
+returns-in_err-kernel g c =
+    let p = err_from_is_err_and c.from_residual-in_err-kernel.result c.from_residual-in_err-kernel.ensures.1 in
     rw (p.1, p.2) (follows_load _ _ _ _ _ _ _ _ c.in_ok-whole.ensures
-    (follows_refused Source _ _ (on_data c.args.input.now trying) _ c.in_err-unit.field-0.0 c.as_slice.ensures c.in_err-unit.ensures))
+    (follows_refused Regular _ _ (on_data c.args.input.now trying) _ c.in_err-kernel.field-0.0 c.as_slice.ensures c.in_err-kernel.ensures))
 
 pub returns-in_err-bytes : goal.returns-in_err-bytes
 returns-in_err-bytes g c =
+    let u = unit c.in_ok-kernel.kernel.unit in
     let p = err_from_is_err_and c.from_residual-in_err-bytes.result c.from_residual-in_err-bytes.ensures.1 in
     rw (p.1, p.2) (follows_load _ _ _ _ _ _ _ _ c.in_ok-whole.ensures
-    (follows_judged Source _ _ (on_data c.args.input.now trying) _ _ c.in_ok-unit.unit _ c.as_slice.ensures c.in_ok-unit.ensures
-    (follows_stop Data _ (λ bytes. read (unit c.in_ok-unit.unit) bytes (trying (unit c.in_ok-unit.unit))) _ _ _ c.in_err-bytes.ensures)))
+    (follows_judged Regular _ _ (on_data c.args.input.now trying) _ _ u c.in_ok-kernel.kernel.frame _ c.as_slice.ensures c.in_ok-kernel.ensures
+    (follows_stop Data _ (λ bytes. read u bytes (trying u)) _ _ _ c.in_err-bytes.ensures)))
 
 pub returns-in_err-inputs : goal.returns-in_err-inputs
 returns-in_err-inputs g c =
+    let u = unit c.in_ok-kernel.kernel.unit in
+    let f = c.in_ok-kernel.kernel.frame in
     let p = err_from_is_err_and c.from_residual-in_err-inputs.result c.from_residual-in_err-inputs.ensures.1 in
     rw (p.1, p.2) (follows_load _ _ _ _ _ _ _ _ c.in_ok-whole.ensures
-    (follows_judged Source _ _ (on_data c.args.input.now trying) _ _ c.in_ok-unit.unit _ c.as_slice.ensures c.in_ok-unit.ensures
-    (follows_load Data _ (λ bytes. read (unit c.in_ok-unit.unit) bytes (trying (unit c.in_ok-unit.unit))) _ _ _ _ _ c.in_ok-bytes.ensures
-    (follows_unread _ _ _ (trying (unit c.in_ok-unit.unit)) _ c.in_err-inputs.field-0.0 c.as_slice-2.ensures c.in_err-inputs.ensures))))
+    (follows_judged Regular _ _ (on_data c.args.input.now trying) _ _ u f _ c.as_slice.ensures c.in_ok-kernel.ensures
+    (follows_load Data _ (λ bytes. read u bytes (trying u)) _ _ _ _ _ c.in_ok-bytes.ensures
+    (follows_unread Regular u f _ _ _ (trying u) _ c.in_err-inputs.field-0.0 c.in_ok-kernel.ensures.framed c.frame.ensures c.as_slice-2.ensures c.in_err-inputs.ensures))))
 
 pub returns : goal.returns
 returns g c =
+    let u = unit c.in_ok-kernel.kernel.unit in
+    let f = c.in_ok-kernel.kernel.frame in
     follows_load _ _ _ _ _ _ _ _ c.in_ok-whole.ensures
-    (follows_judged Source _ _ (on_data c.args.input.now trying) _ _ c.in_ok-unit.unit _ c.as_slice.ensures c.in_ok-unit.ensures
-    (follows_load Data _ (λ bytes. read (unit c.in_ok-unit.unit) bytes (trying (unit c.in_ok-unit.unit))) _ _ _ _ _ c.in_ok-bytes.ensures
-    (follows_read _ _ _ (trying (unit c.in_ok-unit.unit)) _ _ c.in_ok-inputs.inputs _ c.as_slice-2.ensures c.in_ok-inputs.ensures
+    (follows_judged Regular _ _ (on_data c.args.input.now trying) _ _ u f _ c.as_slice.ensures c.in_ok-kernel.ensures
+    (follows_load Data _ (λ bytes. read u bytes (trying u)) _ _ _ _ _ c.in_ok-bytes.ensures
+    (follows_read Regular u f _ _ _ (trying u) _ _ c.in_ok-inputs.inputs _ c.in_ok-kernel.ensures.framed c.frame.ensures c.as_slice-2.ensures c.in_ok-inputs.ensures
     (follows_given _ _ _ c.tried.ensures))))
 
 pub tried-requires-clause-fits : goal.tried-requires-clause-fits
 tried-requires-clause-fits g c =
-    fits_meant (unit c.in_ok-unit.unit) _ (inputs_in c.in_ok-inputs.inputs) c.in_ok-unit.ensures.built c.in_ok-inputs.ensures
+    fits_by c.fits_as_meant.ensures Regular (unit c.in_ok-kernel.kernel.unit) c.in_ok-kernel.kernel.frame _ _ c.in_ok-inputs.inputs c.in_ok-kernel.ensures.framed c.frame.ensures c.in_ok-inputs.ensures

@@ -7,13 +7,10 @@ pub returns : goal.returns
 returns c = record {
   unit = unit_of c.in_ok-guarded.guarded;
   text = c.new.ensures ∙ c.in_ok-text.ensures;
-  is_text = spelled_by _ _ _ c.instrumented_units_have_texts.ensures.one_loop c.requires c.in_ok-guarded.ensures.made (c.new.ensures ∙ c.in_ok-text.ensures);
+  is_text = spelled_by _ _ _ c.instrumented_units_have_texts.ensures.accepted c.requires c.in_ok-guarded.ensures.made (c.new.ensures ∙ c.in_ok-text.ensures);
   head = made_head _ _ c.in_ok-guarded.ensures.made;
   accepted = c.in_ok-guarded.ensures.accepted;
   stores = c.in_ok-guarded.ensures.stores;
   guards = c.in_ok-guarded.ensures.guards;
-  names = c.in_ok-guarded.ensures.names;
-  accesses = c.in_ok-guarded.ensures.accesses;
-  totals = c.in_ok-guarded.ensures.totals;
   done = refl;
 }

@@ -1,7 +1,8 @@
 use Rattle.std.proofs.lemmas.Result.{err_from_is_err_and}
+use Rattle.c_tree.specs.Trees.{unit}
 use Rattle.balance_cli.proofs.Plans.{follows_load, follows_stop, follows_judged, follows_refused, follows_given}
 use Rattle.balance_cli.specs.Plans.{reporting}
-use Rattle.balance_cli.specs.declared.judging.Wanted.TheVariants.{AnySource}
+use Rattle.balance_cli.specs.Sources.{AnySource}
 use Rattle.balance_cli.proofs.stages.report.Goals as goal
 
 pub returns-in_err-text : goal.returns-in_err-text
@@ -9,14 +10,14 @@ returns-in_err-text g c =
     let p = err_from_is_err_and c.from_residual.result c.from_residual.ensures.1 in
     rw (p.1, p.2) (follows_stop _ _ _ _ _ _ c.in_err-text.ensures)
 
-pub returns-in_err-unit : goal.returns-in_err-unit
-returns-in_err-unit g c =
-    let p = err_from_is_err_and c.from_residual-in_err-unit.result c.from_residual-in_err-unit.ensures.1 in
+pub returns-in_err-kernel : goal.returns-in_err-kernel
+returns-in_err-kernel g c =
+    let p = err_from_is_err_and c.from_residual-in_err-kernel.result c.from_residual-in_err-kernel.ensures.1 in
     rw (p.1, p.2) (follows_load _ _ _ _ _ _ _ _ c.in_ok-text.ensures
-    (follows_refused AnySource _ _ reporting _ c.in_err-unit.field-0.0 c.as_slice.ensures c.in_err-unit.ensures))
+    (follows_refused AnySource _ _ reporting _ c.in_err-kernel.field-0.0 c.as_slice.ensures c.in_err-kernel.ensures))
 
 pub returns : goal.returns
 returns g c =
     follows_load _ _ _ _ _ _ _ _ c.in_ok-text.ensures
-    (follows_judged AnySource _ _ reporting _ _ c.in_ok-unit.unit _ c.as_slice.ensures c.in_ok-unit.ensures
+    (follows_judged AnySource _ _ reporting _ _ (unit c.in_ok-kernel.kernel.unit) c.in_ok-kernel.kernel.frame _ c.as_slice.ensures c.in_ok-kernel.ensures
     (follows_given _ _ _ c.reported.ensures))

@@ -1,4 +1,4 @@
-use Rattle.std.proofs.Common.{[], ◌∷◌, refl, arith, lit<, lit≤}
+use Rattle.std.proofs.Common.{refl, arith, lit<, lit≤}
 use Rattle.std.proofs.lemmas.Int.{ints}
 use Rattle.c_tree.specs.Instances.{core}
 use Rattle.c_tree.specs.Inputs.{arrays_for, memory_for}

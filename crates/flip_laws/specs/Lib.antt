@@ -1,0 +1,2 @@
+pub mod FaultyRuns
+pub mod Independence

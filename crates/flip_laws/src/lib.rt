@@ -1,0 +1,61 @@
+//! Laws of faults: what the run of an instrumented unit is under each fault, exposed or not.
+#![tactic(auto)]
+
+ghost use Rattle.std.specs.Prelude.{◌≡◌, codes, List, ℕ};
+ghost use Rattle.acceptance.specs.WorkedSources.{gather, mix};
+ghost use Rattle.instrumentation.specs.Guarded.{guarded};
+ghost use Rattle.flip_laws.specs.FaultyRuns.{AcceptedTellOfFaults, ReadyTellOfFaults, TellsOfFaults};
+ghost use Rattle.flip_laws.specs.Independence.{AcceptedAreApart, AreApart, IndexArraysAreAll, IsIndexArray, OwnValuesAreNothing, PlacesAreFixed, own_index};
+
+/// Under every fault the instrumented unit of a source that has the forms that passes ask for takes its source's steps, and has the totals of what this run read and wrote. A fault that isn't exposed shows in nothing but the one bit, where that stays.
+pub fn ready_sources_tell_of_faults()
+    ensures { ReadyTellOfFaults }
+{
+    balance_laws::law_of_flips();
+    run_laws::sources_follow_their_memory();
+    instrumentation_laws::every_text_ends();
+    instrumentation_laws::every_text_follows();
+    instrumentation_laws::every_unit_follows();
+    pass_laws::passes_go_on();
+    pass_laws::forms_are_ready();
+    guard_laws::ready_sources_are_guarded();
+}
+
+/// So does that of every accepted source without irregular subscripts.
+pub fn accepted_sources_tell_of_faults()
+    ensures { AcceptedTellOfFaults }
+{
+    ready_sources_tell_of_faults();
+    source_laws::accepted_sources_follow();
+}
+
+/// The instances and the places of a source's accesses depend on its parameters alone, the accesses of an array not on that array's own values, and the whole list on parameters and index arrays alone.
+pub fn control_is_independent()
+    ensures places { PlacesAreFixed }
+    ensures own { OwnValuesAreNothing }
+    ensures list { IndexArraysAreAll }
+{}
+
+/// No cell of an accepted source, with irregular subscripts or without, is a subscript of its own array.
+pub fn accepted_sources_are_apart()
+    ensures { AcceptedAreApart }
+{}
+
+/// A nest of two loops over three arrays has such an instrumented unit.
+pub fn a_nest_tells_of_faults()
+    ensures { TellsOfFaults mix (guarded mix) }
+{
+    accepted_sources_tell_of_faults();
+    source_laws::a_nest_is_guarded();
+}
+
+/// In a read of X through P, P is the index array and no other is, and no cell is a subscript of its own array. In A[A[i]] one is.
+pub fn a_gather_is_apart()
+    ensures apart { AreApart gather.body }
+    ensures index { IsIndexArray gather.body (codes "P") }
+    ensures alone { (y : List ℕ) → IsIndexArray gather.body y → y ≡ codes "P" }
+    ensures own { ¬ AreApart own_index }
+{
+    accepted_sources_are_apart();
+    source_laws::a_gather_is_exact();
+}

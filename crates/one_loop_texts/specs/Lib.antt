@@ -1,2 +1,0 @@
-pub mod OneLoopText
-pub mod Shift

@@ -1,0 +1,16 @@
+//! Tests of runs, of sources and of printed texts written by hand, whose ends were worked out by hand.
+#![tactic(auto)]
+
+pub mod ends;
+#[cfg(test)]
+mod kernels;
+#[cfg(test)]
+mod language;
+#[cfg(test)]
+mod outside;
+pub mod printed_runs;
+#[cfg(test)]
+mod printed_texts;
+pub mod runs;
+mod tables;
+pub mod texts;

@@ -1,0 +1,61 @@
+//! Printed texts, checked and run on the values of a data text.
+
+ghost use Rattle.std.specs.Prelude.{◌⊎◌, IfOk, IfSome};
+ghost use Rattle.acceptance.specs.Trees.{IsSourceTree, IsPrintedTree};
+ghost use Rattle.c_tree.specs.Inputs.{Fit};
+ghost use Rattle.c_tree.specs.Trees.{unit as tree};
+ghost use Rattle.interp.specs.Finished.{inputs_in};
+ghost use Rattle.kernel_check.specs.Kernels.{IsPrintedOf};
+
+use crate::runs::ended;
+use crate::tables::all_make_no_table;
+use c_parser::parse;
+use c_tree::{Ended, Inputs, OutOfMemory, Refusal, Unit, preamble};
+use data_file::{DataRefusal, fits_as_meant, read_data};
+use kernel_check::{Printed, check_printed};
+use std::alloc::Global;
+use tree_texts::texts_have_trees;
+
+fn checked(alloc: Global, unit: Unit) -> Result<Printed, Refusal>
+    requires { IsSourceTree (tree unit) ⊎ IsPrintedTree (tree unit) }
+    ensures { IfOk result (λ p. IsPrintedOf (tree p.unit) p) }
+{
+    match unit.version {
+        Some(_) => check_printed(alloc, unit),
+        None => Err(Refusal::Syntax { byte: 0 }),
+    }
+}
+
+fn printed_of(alloc: Global, text: &[u8]) -> Result<Printed, Refusal>
+    ensures { IfOk result (λ p. IsPrintedOf (tree p.unit) p) }
+{
+    texts_have_trees();
+    checked(alloc, parse(alloc, text)?)
+}
+
+fn inputs_of(alloc: Global, printed: &Printed, data: &[u8]) -> Result<Option<Inputs>, OutOfMemory>
+    requires { IsPrintedOf (tree printed.now.unit) printed.now }
+    ensures { IfOk result (λ given. IfSome given (λ i. Fit (tree printed.now.unit) (inputs_in i))) }
+{
+    fits_as_meant();
+    match read_data(alloc, printed.frame(), data) {
+        Ok(inputs) => Ok(Some(inputs)),
+        Err(DataRefusal::OutOfMemory) => Err(OutOfMemory),
+        Err(_) => Ok(None),
+    }
+}
+
+/// The end of the run of the preamble with this text behind it, where the text is taken and makes no
+/// table.
+pub fn printed_ran(alloc: Global, behind: &[u8], data: &[u8]) -> Result<Option<Ended>, Refusal> {
+    let mut text = Vec::from_slice(alloc, preamble())?;
+    text.extend_from_slice(behind)?;
+    let printed = printed_of(alloc, text.as_slice())?;
+    let given = inputs_of(alloc, &printed, data)?;
+    match given {
+        Some(i) if all_make_no_table(&printed.unit().body) => {
+            Ok(ended(alloc, printed.unit(), &i)?)
+        }
+        _ => Ok(None),
+    }
+}
