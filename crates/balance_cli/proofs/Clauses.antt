@@ -14,7 +14,7 @@ use Rattle.command_line.specs.declared.outcome.Finish.{Finish}
 use Rattle.command_line.specs.declared.outcome.Finish.TheVariants as finish
 use Rattle.command_line.specs.declared.outcome.Output.{Output}
 use Rattle.command_line.specs.declared.outcome.Stop.{Stop}
-use Rattle.command_line.specs.declared.outcome.Stop.TheVariants.{ReadFault, TooLong, SourceRefused, DataRefused, NoMemory}
+use Rattle.command_line.specs.declared.outcome.Stop.TheVariants.{ReadFault, TooLong, SourceRefused, DataRefused, FlipRefused, NoMemory}
 use Rattle.command_line.specs.declared.status.Status.{Status}
 use Rattle.command_line.specs.declared.status.Status.TheVariants as status
 use Rattle.balance_cli.proofs.Plans.{asked_nothing}
@@ -70,6 +70,15 @@ stop_cause order m (DataRefused why) ends is follows unwritten line =
         line = line;
       },
     )
+stop_cause order m (FlipRefused refusal) ends is follows unwritten line =
+    subst (Cause (Some order) m) (sym is) (
+      refusal,
+      record {
+        defined = defined_end (plan_of order) _ _ follows.names (Err (FlipRefused refusal)) tt follows.ends;
+        unwritten = unwritten;
+        line = line;
+      },
+    )
 stop_cause order m NoMemory ends is follows unwritten line =
     subst (Cause (Some order) m) (sym is) (record { unwritten = unwritten; line = line })
 
@@ -111,8 +120,10 @@ misused (Some order) m ends called none = absurd (none-some order (sym none))
 
 plan_asks : (order : Order) → AsksOnly (plan_of order) (files_of order)
 plan_asks (print source) = (refl, λ text unit. tt)
-plan_asks (run_file file input) = (refl, λ text unit. (refl, λ bytes inputs. tt))
-plan_asks (attempt source input) = (refl, λ text unit. (refl, λ bytes inputs. tt))
+plan_asks (run_file file input None) = (refl, λ text unit. (refl, λ bytes inputs. tt))
+plan_asks (run_file file input (Some flip)) = (refl, λ text unit. (refl, λ bytes inputs. (refl, λ words fault. tt)))
+plan_asks (attempt source input None) = (refl, λ text unit. (refl, λ bytes inputs. tt))
+plan_asks (attempt source input (Some flip)) = (refl, λ text unit. (refl, λ bytes inputs. (refl, λ words fault. tt)))
 plan_asks (report source) = (refl, λ text unit. tt)
 
 no_order_asks : (m : Met) (ends : Status) → IsAnswer None m ends → m.shelf ≡ m.shelf_before
@@ -133,16 +144,19 @@ apart finish.Done (ReadFault word) same = cc
 apart finish.Done (TooLong word) same = cc
 apart finish.Done (SourceRefused refusal) same = cc
 apart finish.Done (DataRefused why) same = cc
+apart finish.Done (FlipRefused refusal) same = cc
 apart finish.Done NoMemory same = cc
 apart finish.Reported (ReadFault word) same = cc
 apart finish.Reported (TooLong word) same = cc
 apart finish.Reported (SourceRefused refusal) same = cc
 apart finish.Reported (DataRefused why) same = cc
+apart finish.Reported (FlipRefused refusal) same = cc
 apart finish.Reported NoMemory same = cc
 apart finish.Outside (ReadFault word) same = cc
 apart finish.Outside (TooLong word) same = cc
 apart finish.Outside (SourceRefused refusal) same = cc
 apart finish.Outside (DataRefused why) same = cc
+apart finish.Outside (FlipRefused refusal) same = cc
 apart finish.Outside NoMemory same = cc
 
 -- the outcome has the status of the ideal one, or memory was wanting
@@ -175,6 +189,7 @@ calm_shelf (Err (ReadFault word)) m calm = tt
 calm_shelf (Err (TooLong word)) m calm = calm
 calm_shelf (Err (SourceRefused refusal)) m calm = calm
 calm_shelf (Err (DataRefused why)) m calm = calm
+calm_shelf (Err (FlipRefused refusal)) m calm = calm
 calm_shelf (Err NoMemory) m calm = calm
 
 -- the outcome of a call agrees with each that is defined

@@ -8,9 +8,9 @@ use Rattle.command_line.specs.Statuses.{status_of, finish_status, ideal_status}
 use Rattle.command_line.specs.declared.outcome.FileWord.{FileWord}
 use Rattle.command_line.specs.declared.outcome.Output.{Output}
 use Rattle.command_line.specs.declared.outcome.Stop.{Stop}
-use Rattle.command_line.specs.declared.outcome.Stop.TheVariants.{ReadFault, TooLong, SourceRefused, DataRefused, NoMemory}
+use Rattle.command_line.specs.declared.outcome.Stop.TheVariants.{ReadFault, TooLong, SourceRefused, DataRefused, FlipRefused, NoMemory}
 use Rattle.balance_cli.specs.Plans.{Plan, load, ask, give, Files, Ends, Defined, Passes, Reaches, AsksOnly}
-use Rattle.balance_cli.specs.Whys.{Why, of_source, of_data, stop_for}
+use Rattle.balance_cli.specs.Whys.{Why, of_source, of_data, of_flip, stop_for}
 
 -- neither a fault nor want of memory
 abbrev pub IsOwn : Result Output Stop → Type 0
@@ -19,6 +19,7 @@ IsOwn (Err (ReadFault word)) = ⊥
 IsOwn (Err (TooLong word)) = Unit {0}
 IsOwn (Err (SourceRefused refusal)) = Unit {0}
 IsOwn (Err (DataRefused why)) = Unit {0}
+IsOwn (Err (FlipRefused refusal)) = Unit {0}
 IsOwn (Err NoMemory) = ⊥
 
 -- a fault at this load
@@ -28,12 +29,14 @@ IsFaultAt at (Err (ReadFault word)) = at ≡ word
 IsFaultAt at (Err (TooLong word)) = ⊥
 IsFaultAt at (Err (SourceRefused refusal)) = ⊥
 IsFaultAt at (Err (DataRefused why)) = ⊥
+IsFaultAt at (Err (FlipRefused refusal)) = ⊥
 IsFaultAt at (Err NoMemory) = ⊥
 
 -- no question stops so
 no_fault : (at : FileWord) (why : Why) → IsFaultAt at (Err (stop_for why)) → ⊥
 no_fault at (of_source refusal) fault = fault
 no_fault at (of_data words) fault = fault
+no_fault at (of_flip refusal) fault = fault
 
 -- an ending of the plan's own is the defined one
 pub defined_end : (plan : Plan) (files : Files) (rose : Type 0) (names : List (List ℕ)) (outcome : Result Output Stop) → IsOwn outcome → Ends plan files rose names outcome → Defined plan files outcome
@@ -90,6 +93,7 @@ IsCalmFor (Err (ReadFault word)) rose = Unit {0}
 IsCalmFor (Err (TooLong word)) rose = rose → ⊥
 IsCalmFor (Err (SourceRefused why)) rose = rose → ⊥
 IsCalmFor (Err (DataRefused why)) rose = rose → ⊥
+IsCalmFor (Err (FlipRefused refusal)) rose = rose → ⊥
 IsCalmFor (Err NoMemory) rose = rose → ⊥
 
 -- where a fault matters to it there is none
@@ -99,6 +103,7 @@ fault_as_ideal word rose (Err (ReadFault w)) calm r = refl
 fault_as_ideal word rose (Err (TooLong w)) calm r = absurd (calm r)
 fault_as_ideal word rose (Err (SourceRefused why)) calm r = absurd (calm r)
 fault_as_ideal word rose (Err (DataRefused why)) calm r = absurd (calm r)
+fault_as_ideal word rose (Err (FlipRefused refusal)) calm r = absurd (calm r)
 fault_as_ideal word rose (Err NoMemory) calm r = absurd (calm r)
 
 not_absent : (file : Option (List ℕ)) (bytes : List ℕ) → file ≡ None → file ≡ Some bytes → ⊥

@@ -15,7 +15,7 @@ use Rattle.data_file.specs.declared.refusal.DataRefusal.TheVariants.{OutOfMemory
 use Rattle.frame_laws.specs.Laws.{HasFrame, OfOneUnit, ReadAlike}
 use Rattle.interp.specs.Finished.{inputs_in}
 use Rattle.balance_cli.specs.Inputs.{IsMeant, IsDataRefused, IsDataWhy}
-use Rattle.balance_cli.specs.Whys.{Why, of_source, of_data, stop_for}
+use Rattle.balance_cli.specs.Whys.{Why, of_source, of_data, of_flip, stop_for}
 use Rattle.balance_cli.proofs.Endings.{IsDecided}
 
 -- what is said of frames and of data texts
@@ -61,11 +61,14 @@ data_why head text f of is (inr (why, refused)) =
 data_apart : DataLaws → (head : PlainUnit) (text : List ℕ) (inputs : PlainInputs) (why : Why) → IsMeant head text inputs → IsDataWhy head text why → ⊥
 data_apart laws head text inputs (of_source why) one two = two
 data_apart laws head text inputs (of_data words) one two = read_once laws head text words inputs one two
+data_apart laws head text inputs (of_flip why) one two = two
 
 data_status : (head : PlainUnit) (text : List ℕ) (v w : Why) → IsDataWhy head text v → IsDataWhy head text w → status_of (stop_for v) ≡ status_of (stop_for w)
 data_status head text (of_data v) (of_data w) one two = refl
 data_status head text (of_source v) w one two = absurd one
+data_status head text (of_flip v) w one two = absurd one
 data_status head text (of_data v) (of_source w) one two = absurd two
+data_status head text (of_data v) (of_flip w) one two = absurd two
 
 pub read_decided : DataLaws → (head : PlainUnit) (text : List ℕ) → HasFrame head → IsDecided (IsMeant head text) (IsDataWhy head text)
 read_decided laws head text framed = record {

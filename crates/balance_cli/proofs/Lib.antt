@@ -1,6 +1,7 @@
 pub mod CheckedArrays
 pub mod Clauses
 pub mod Endings
+pub mod Flips
 pub mod Frames
 pub mod HeadsMade
 pub mod Named

@@ -4,23 +4,30 @@ use Rattle.std.proofs.lemmas.List.{append-nil}
 use Rattle.edge.specs.Causes.{Rose}
 use Rattle.edge.specs.Shelf.{Told}
 use Rattle.c_tree.specs.Grammar.Texts.{IsText}
+use Rattle.c_tree.specs.Fault.{Fault}
 use Rattle.c_tree.specs.Inputs.{PlainInputs, Fit}
 use Rattle.c_tree.specs.Plain.{PlainUnit}
 use Rattle.c_tree.specs.declared.frame.Frame.{Frame}
 use Rattle.c_tree.specs.declared.frame.Inputs.{Inputs}
+use Rattle.c_tree.specs.declared.run.Flip.{Flip}
 use Rattle.command_line.specs.declared.outcome.FileWord.{FileWord}
 use Rattle.command_line.specs.declared.outcome.Output.{Output}
 use Rattle.command_line.specs.declared.outcome.Stop.{Stop}
-use Rattle.command_line.specs.declared.outcome.Stop.TheVariants.{ReadFault, TooLong, SourceRefused, DataRefused, NoMemory}
+use Rattle.command_line.specs.declared.outcome.Stop.TheVariants.{ReadFault, TooLong, SourceRefused, DataRefused, FlipRefused, NoMemory}
 use Rattle.data_file.specs.Answers.{MeansFitting}
 use Rattle.data_file.specs.Conditions.{IsFrame}
+use Rattle.data_file.specs.Checks.{Fits}
 use Rattle.data_file.specs.Frames.{FitsAsMeant, IsFrameOf}
+use Rattle.fault_plan.specs.Answers.{FitsInputs, MeansFitting as MeansFittingFlip}
+use Rattle.fault_plan.specs.Units.{FlipsFitUnits, FitsUnit, fault_in}
+use Rattle.interp.specs.Flips.{IsFaultFor}
 use Rattle.interp.specs.Finished.{inputs_in}
+use Rattle.balance_cli.specs.Flips.{MeansFault, IsFlipWhy}
 use Rattle.balance_cli.specs.Inputs.{IsMeant, IsDataWhy}
-use Rattle.balance_cli.specs.Plans.{Plan, load, ask, give, judge, read, Files, Ends, Follows}
+use Rattle.balance_cli.specs.Plans.{Plan, load, ask, give, judge, read, read_flip, Files, Ends, Follows}
 use Rattle.balance_cli.specs.Sources.{Wanted, Accepts, IsSourceWhy}
-use Rattle.balance_cli.specs.Stages.{IsLoad, IsFramed, IsTaken, IsSourceStop, IsFrameWhy}
-use Rattle.balance_cli.specs.Whys.{Why, of_source, of_data, StopsFor}
+use Rattle.balance_cli.specs.Stages.{IsLoad, IsFramed, IsTaken, IsSourceStop, IsFrameWhy, IsFlipWhyBy}
+use Rattle.balance_cli.specs.Whys.{Why, of_source, of_data, of_flip, StopsFor}
 
 -- a count that rose after an earlier value rose since then
 rose_over : (first middle last : ℕ) → first ≤ middle → Rose middle last → Rose first last
@@ -68,6 +75,7 @@ follows_stop word name next before now (ReadFault w) one = record { files = one.
 follows_stop word name next before now (TooLong w) one = record { files = one.0.files; later = one.0.later; names = name ∷ []; asked = one.0.asked; ends = inr (inr (inl (refl, ap (λ x. Err (TooLong x)) one.1, one.2))) }
 follows_stop word name next before now (SourceRefused refusal) one = absurd one
 follows_stop word name next before now (DataRefused why) one = absurd one
+follows_stop word name next before now (FlipRefused why) one = absurd one
 follows_stop word name next before now NoMemory one = record { files = one.files; later = one.later; names = []; asked = one.asked; ends = inl (refl, refl) }
 
 pub asked_nothing : (asked : Option (List (List ℕ))) → asked ≡ option_map (λ a. a ++ []) asked
@@ -93,6 +101,7 @@ ends_stopped : {A : Type 0} (answers : A → Type 0) (stops : Why → Type 0) (n
 unfolding Ends
 ends_stopped answers stops next files (SourceRefused refusal) why rose = inr (inl (of_source refusal, why, refl, refl))
 ends_stopped answers stops next files (DataRefused words) why rose = inr (inl (of_data words, why, refl, refl))
+ends_stopped answers stops next files (FlipRefused refusal) why rose = inr (inl (of_flip refusal, why, refl, refl))
 ends_stopped answers stops next files NoMemory why rose = inl (refl, refl)
 ends_stopped answers stops next files (ReadFault word) why rose = absurd why
 ends_stopped answers stops next files (TooLong word) why rose = absurd why
@@ -134,6 +143,7 @@ follows_read kind head f g text seen next before now i outcome framed own same o
 unread_by : (head : PlainUnit) (f : Frame) (text : List ℕ) (cause : Stop) → IsFrameOf head f → IsFrame f → StopsFor (IsFrameWhy f text) cause → StopsFor (IsDataWhy head text) cause
 unread_by head f text (SourceRefused refusal) of is h = absurd h
 unread_by head f text (DataRefused words) of is h = record { frame = f; of = of; is = is; why = h.0; refused = h.1; written = h.2 }
+unread_by head f text (FlipRefused refusal) of is h = absurd h
 unread_by head f text (ReadFault word) of is h = absurd h
 unread_by head f text (TooLong word) of is h = absurd h
 unread_by head f text NoMemory of is h = tt
@@ -147,3 +157,36 @@ follows_unread kind head f g text seen next now cause framed own same one =
 -- inputs that are meant by the frame of a unit fit the unit
 pub fits_by : FitsAsMeant → (kind : Wanted) (head : PlainUnit) (f g : Frame) (text : List ℕ) (i : Inputs) → IsFramed kind head f → g ≡ f → MeansFitting g text i → Fit head (inputs_in i)
 fits_by law kind head f g text i framed own means = law head f text (inputs_in i) framed.of (subst (λ (h : Frame). MeansFitting h text i) own means)
+
+pub fits_frame_by : (f g : Frame) (text : List ℕ) (i : Inputs) → g ≡ f → MeansFitting g text i → Fits f i
+fits_frame_by f g text i own means = subst (λ (h : Frame). Fits h i) own means.fits
+
+-- ---- flip texts, by a frame of the unit
+
+-- one that means a flip, and the rest of the plan
+pub follows_flip : (kind : Wanted) (head : PlainUnit) (f g : Frame) (i : Inputs) (text seen : List ℕ) (next : Option Fault → Plan) (before now : Told) (flip : Flip) (outcome : Result Output Stop) → IsFramed kind head f → g ≡ f → seen ≡ text → MeansFittingFlip g i seen flip → Follows (next (Some (fault_in flip))) before now outcome → Follows (read_flip head (inputs_in i) text next) before now outcome
+follows_flip kind head f g i text seen next before now flip outcome framed own same one rest =
+    follows_answered (MeansFault head (inputs_in i) text) (IsFlipWhy head (inputs_in i) text) (λ fault. next (Some fault)) before now (fault_in flip) outcome
+    (record { frame = f; of = framed.of; is = framed.is; flip = flip; means = subst (λ (t : List ℕ). MeansFittingFlip f i t flip) same (subst (λ (h : Frame). MeansFittingFlip h i seen flip) own one); same = refl }) rest
+
+unflipped_by : (head : PlainUnit) (f : Frame) (i : Inputs) (text : List ℕ) (cause : Stop) → IsFrameOf head f → IsFrame f → StopsFor (IsFlipWhyBy f i text) cause → StopsFor (IsFlipWhy head (inputs_in i) text) cause
+unflipped_by head f i text (SourceRefused refusal) of is h = absurd h
+unflipped_by head f i text (DataRefused words) of is h = absurd h
+unflipped_by head f i text (FlipRefused refusal) of is h = record { frame = f; of = of; is = is; refused = h }
+unflipped_by head f i text (ReadFault word) of is h = absurd h
+unflipped_by head f i text (TooLong word) of is h = absurd h
+unflipped_by head f i text NoMemory of is h = tt
+
+-- one that is refused
+pub follows_unflipped : (kind : Wanted) (head : PlainUnit) (f g : Frame) (i : Inputs) (text seen : List ℕ) (next : Option Fault → Plan) (now : Told) (cause : Stop) → IsFramed kind head f → g ≡ f → seen ≡ text → StopsFor (IsFlipWhyBy g i seen) cause → Follows (read_flip head (inputs_in i) text next) now now (Err cause)
+follows_unflipped kind head f g i text seen next now cause framed own same one =
+    follows_stopped (MeansFault head (inputs_in i) text) (IsFlipWhy head (inputs_in i) text) (λ fault. next (Some fault)) now cause
+    (unflipped_by head f i text cause framed.of framed.is (subst (λ (t : List ℕ). StopsFor (IsFlipWhyBy f i t) cause) same (subst (λ (h : Frame). StopsFor (IsFlipWhyBy h i seen) cause) own one)))
+
+as_fault : (u : PlainUnit) (i : PlainInputs) (fault : Fault) → FitsUnit u i fault → IsFaultFor u i fault
+as_fault u i fault fits = record { array = fits.array; cell = fits.cell; bit = fits.bit }
+
+-- a flip that is meant by the frame of a unit is a fault of the unit
+pub fault_by : FlipsFitUnits → (kind : Wanted) (head : PlainUnit) (f g : Frame) (text : List ℕ) (i : Inputs) (flip : Flip) → IsFramed kind head f → g ≡ f → Fit head (inputs_in i) → MeansFittingFlip g i text flip → IsFaultFor head (inputs_in i) (fault_in flip)
+fault_by law kind head f g text i flip framed own fit means =
+    as_fault head (inputs_in i) (fault_in flip) ((law head f (inputs_in i) flip framed.of fit).0 (subst (λ (h : Frame). FitsInputs h i flip) own means.fits))

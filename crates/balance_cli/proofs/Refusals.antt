@@ -6,13 +6,18 @@ use Rattle.c_tree.specs.Grammar.Texts.{IsText}
 use Rattle.c_tree.specs.Grammar.Tokens.{is_printed}
 use Rattle.c_tree.specs.Plain.{PlainUnit}
 use Rattle.c_tree.specs.declared.frame.Frame.{Frame}
+use Rattle.c_tree.specs.declared.frame.Inputs.{Inputs}
 use Rattle.c_tree.specs.declared.refusal.Refusal.{Refusal}
 use Rattle.c_tree.specs.declared.refusal.Refusal.TheVariants as refusal
 use Rattle.c_parser.specs.Answers.{IsRefused}
-use Rattle.command_line.specs.Stops.{stop_of}
+use Rattle.command_line.specs.Stops.{stop_of, flip_stop_of}
+use Rattle.fault_plan.specs.Answers.{Answers}
+use Rattle.fault_plan.specs.declared.refusal.FlipRefusal.{FlipRefusal}
+use Rattle.fault_plan.specs.declared.refusal.FlipRefusal.TheVariants as flip
 use Rattle.kernel_check.specs.Judging.{IsLowest}
 use Rattle.balance_cli.specs.Sources.{Wanted, Regular, AnyText, AnySource, judged_by, IsInPlace, IsUnbuiltUnit, Refuses}
-use Rattle.balance_cli.specs.Stages.{IsOwn, IsRefusedFor, IsSourceOf, IsSourceStop, IsTaken, IsUnitWhy}
+use Rattle.balance_cli.specs.Stages.{IsFlipWhyBy, IsOwn, IsRefusedFor, IsSourceOf, IsSourceStop, IsTaken, IsUnitWhy}
+use Rattle.balance_cli.specs.Whys.{StopsFor}
 use Rattle.balance_cli.proofs.TextLaws.{unit_refused}
 
 -- what is refused as a source is refused as a regular one
@@ -93,3 +98,10 @@ stop_by kind text refusal.Unbuilt h = h
 stop_by kind text (refusal.Lexical byte) h = h
 stop_by kind text (refusal.Syntax byte) h = h
 stop_by kind text _ h = h
+
+pub flip_stop_by : (f : Frame) (i : Inputs) (text : List ℕ) (why : FlipRefusal) → Answers f i text (Err why) → StopsFor (IsFlipWhyBy f i text) (flip_stop_of why)
+flip_stop_by f i text flip.OutOfMemory h = tt
+flip_stop_by f i text flip.Syntax h = record { answers = h; cause = λ e. let no : ⊥ = cc in no }
+flip_stop_by f i text flip.UnknownArray h = record { answers = h; cause = λ e. let no : ⊥ = cc in no }
+flip_stop_by f i text flip.CellOutside h = record { answers = h; cause = λ e. let no : ⊥ = cc in no }
+flip_stop_by f i text flip.BitOutside h = record { answers = h; cause = λ e. let no : ⊥ = cc in no }

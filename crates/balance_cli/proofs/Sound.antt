@@ -1,12 +1,13 @@
 -- What the crates below say makes each plan sound: its questions are decided, and its texts are there.
-use Rattle.std.proofs.Common.{◌≡◌, ◌⊎◌, ℕ, List, true, length, None, inl, inr, refl, sym, ◌∙◌, ap}
+use Rattle.std.proofs.Common.{◌≡◌, ◌⊎◌, ℕ, List, true, length, Option, Some, None, inl, inr, refl, sym, ◌∙◌, ap}
 use Rattle.acceptance.specs.Sources.{IsAcceptedSource, all_are_regular}
+use Rattle.c_tree.specs.Fault.{Fault}
 use Rattle.c_tree.specs.Inputs.{PlainInputs}
 use Rattle.c_tree.specs.Grammar.Texts.{IsText}
 use Rattle.c_tree.specs.Layout.{layout}
 use Rattle.c_tree.specs.Plain.{PlainUnit}
 use Rattle.c_tree.specs.Run as run
-use Rattle.c_tree.specs.Run.{End, plain, balanced, fault, index, outside}
+use Rattle.c_tree.specs.Run.{End, plain, balanced, index, outside}
 use Rattle.c_tree.specs.declared.refusal.Refusal.{Refusal}
 use Rattle.c_tree.specs.declared.run.Ended.{Ended}
 use Rattle.c_tree.specs.declared.run.Verdict.{Verdict}
@@ -21,14 +22,17 @@ use Rattle.command_line.specs.Orders.{Order, print, run_file, attempt, report}
 use Rattle.command_line.specs.Statuses.{status_of}
 use Rattle.command_line.specs.declared.outcome.Finish.TheVariants.{Done}
 use Rattle.command_line.specs.declared.outcome.Output.{Output}
-use Rattle.source_laws.specs.Laws.{AcceptedArePrinted, AcceptedAreGuarded, AcceptedStoreNothing, IsRegularSource}
-use Rattle.balance_cli.specs.Plans.{plan_of}
+use Rattle.source_laws.specs.Laws.{AcceptedArePrinted, AcceptedStoreNothing, IsRegularSource}
+use Rattle.flip_laws.specs.FaultyRuns.{AcceptedTellOfFaults}
+use Rattle.balance_cli.specs.Inputs.{IsMeant}
+use Rattle.balance_cli.specs.Plans.{Plan, on_flip, plan_of, running, trying}
 use Rattle.balance_cli.specs.Printed.{IsPrinted}
 use Rattle.balance_cli.specs.Reports.{IsReported}
 use Rattle.balance_cli.specs.Runs.{finish_of, IsRun, IsTried}
 use Rattle.balance_cli.specs.Sources.{Wanted, Regular, AnyText, AnySource, IsBuilt, Accepts, Refuses, IsSourceWhy}
-use Rattle.balance_cli.specs.Whys.{Why, of_source, of_data, stop_for}
+use Rattle.balance_cli.specs.Whys.{Why, of_source, of_data, of_flip, stop_for}
 use Rattle.balance_cli.proofs.Endings.{IsDecided, IsGiven, IsSound}
+use Rattle.balance_cli.proofs.Flips.{FlipLaws, flip_decided}
 use Rattle.balance_cli.proofs.Frames.{DataLaws, read_decided}
 use Rattle.balance_cli.proofs.HeadsMade.{made_head}
 use Rattle.balance_cli.proofs.TextLaws.{TextLaws, judged_once, taken_or_refused}
@@ -37,9 +41,10 @@ use Rattle.balance_cli.proofs.TextLaws.{TextLaws, judged_once, taken_or_refused}
 pub record Laws : Type 0 where
   pub texts : TextLaws
   pub data_texts : DataLaws
+  pub flip_texts : FlipLaws
   pub source_frames : SourcesHaveFrames
   pub printed_frames : PrintedHaveFrames
-  pub guards : AcceptedAreGuarded
+  pub faults : AcceptedTellOfFaults
   pub accepted : AcceptedArePrinted
   pub stores : AcceptedStoreNothing
   pub printed : (u : PlainUnit) → IsAcceptedSource u → all_are_regular u.body ≡ true → IsText (layout (guarded u)) (guarded u)
@@ -61,7 +66,7 @@ printed_text laws source form = (
     head = made_head source (guarded source) refl;
     accepted = laws.accepted source form;
     stores = laws.stores source form;
-    guards = laws.guards source form;
+    faults = laws.faults source form;
     done = refl;
   },
 )
@@ -69,7 +74,7 @@ printed_text laws source form = (
 verdict_of : End → Verdict
 verdict_of plain = verdict.Plain
 verdict_of balanced = verdict.Balanced
-verdict_of (fault arrays) = verdict.Fault arrays
+verdict_of (run.fault arrays) = verdict.Fault arrays
 verdict_of (index a) = verdict.Index a
 verdict_of (outside a) = verdict.Outside a
 
@@ -77,7 +82,7 @@ verdict_in-verdict_of : (e : End) → verdict_in (verdict_of e) ≡ e
 unfolding verdict_of
 verdict_in-verdict_of plain = refl
 verdict_in-verdict_of balanced = refl
-verdict_in-verdict_of (fault arrays) = refl
+verdict_in-verdict_of (run.fault arrays) = refl
 verdict_in-verdict_of (index a) = refl
 verdict_in-verdict_of (outside a) = refl
 
@@ -104,17 +109,17 @@ shown_end r = (
   },
 )
 
-run_text : (unit : PlainUnit) (inputs : PlainInputs) → HasFrame unit → (output : Output) × IsRun unit inputs output
-run_text unit inputs framed =
-    let r = run.run unit inputs None in
+run_text : (unit : PlainUnit) (inputs : PlainInputs) (fault : Option Fault) → HasFrame unit → (output : Output) × IsRun unit inputs fault output
+run_text unit inputs fault framed =
+    let r = run.run unit inputs fault in
     let shown = shown_end r in (
       record { text = output_text framed.frame shown.0; finish = finish_of r.verdict },
       record { ended = shown.0; is = shown.1; frame = framed.frame; of = framed.of; text = refl; finish = refl },
     )
 
-tried_text : Laws → (source : PlainUnit) (inputs : PlainInputs) → IsRegularSource source → HasFrame source → (output : Output) × IsTried source inputs output
-tried_text laws source inputs form framed =
-    let r = run.run (guarded source) inputs None in
+tried_text : Laws → (source : PlainUnit) (inputs : PlainInputs) (fault : Option Fault) → IsRegularSource source → HasFrame source → (output : Output) × IsTried source inputs fault output
+tried_text laws source inputs fault form framed =
+    let r = run.run (guarded source) inputs fault in
     let shown = shown_end r in (
       record { text = output_text framed.frame shown.0; finish = finish_of r.verdict },
       record {
@@ -124,7 +129,7 @@ tried_text laws source inputs form framed =
         head = made_head source (guarded source) refl;
         accepted = laws.accepted source form;
         stores = laws.stores source form;
-        guards = laws.guards source form;
+        faults = laws.faults source form;
         ended = shown.0;
         is = shown.1;
         frame = framed.frame;
@@ -135,19 +140,19 @@ tried_text laws source inputs form framed =
     )
 
 -- two outputs of one run end alike
-tried_once : (source : PlainUnit) (inputs : PlainInputs) (o p : Output) → IsTried source inputs o → IsTried source inputs p → o.finish ≡ p.finish
-tried_once source inputs o p one two =
-    one.finish ∙ ap (λ u. finish_of (run.run u inputs None).verdict) (one.made ∙ sym two.made) ∙ sym two.finish
+tried_once : (source : PlainUnit) (inputs : PlainInputs) (fault : Option Fault) (o p : Output) → IsTried source inputs fault o → IsTried source inputs fault p → o.finish ≡ p.finish
+tried_once source inputs fault o p one two =
+    one.finish ∙ ap (λ u. finish_of (run.run u inputs fault).verdict) (one.made ∙ sym two.made) ∙ sym two.finish
 
 printed_given : Laws → (source : PlainUnit) → IsRegularSource source → IsGiven (IsPrinted source)
 printed_given laws source form = record { some = printed_text laws source form; same = λ o p one two. one.done ∙ sym two.done }
 
-run_given : (unit : PlainUnit) (inputs : PlainInputs) → HasFrame unit → IsGiven (IsRun unit inputs)
-run_given unit inputs framed = record { some = run_text unit inputs framed; same = λ o p one two. one.finish ∙ sym two.finish }
+run_given : (unit : PlainUnit) (inputs : PlainInputs) (fault : Option Fault) → HasFrame unit → IsGiven (IsRun unit inputs fault)
+run_given unit inputs fault framed = record { some = run_text unit inputs fault framed; same = λ o p one two. one.finish ∙ sym two.finish }
 
-tried_given : Laws → (source : PlainUnit) (inputs : PlainInputs) → IsRegularSource source → IsGiven (IsTried source inputs)
-tried_given laws source inputs form =
-    record { some = tried_text laws source inputs form (laws.source_frames source form.accepted); same = tried_once source inputs }
+tried_given : Laws → (source : PlainUnit) (inputs : PlainInputs) (fault : Option Fault) → IsRegularSource source → IsGiven (IsTried source inputs fault)
+tried_given laws source inputs fault form =
+    record { some = tried_text laws source inputs fault form (laws.source_frames source form.accepted); same = tried_once source inputs fault }
 
 report_given : (source : PlainUnit) → IsGiven (IsReported source)
 report_given source = record {
@@ -164,11 +169,14 @@ source_why kind text (inr refused) = inr (of_source refused.0, refused.1)
 source_apart : TextLaws → (kind : Wanted) (text : List ℕ) (a : PlainUnit) (why : Why) → Accepts kind text a → IsSourceWhy kind text why → ⊥
 source_apart laws kind text a (of_source why) one two = judged_once laws kind text a why one two
 source_apart laws kind text a (of_data words) one two = two
+source_apart laws kind text a (of_flip why) one two = two
 
 source_status : (kind : Wanted) (text : List ℕ) (v w : Why) → IsSourceWhy kind text v → IsSourceWhy kind text w → status_of (stop_for v) ≡ status_of (stop_for w)
 source_status kind text (of_source v) (of_source w) one two = refl
 source_status kind text (of_data v) w one two = absurd one
+source_status kind text (of_flip v) w one two = absurd one
 source_status kind text (of_source v) (of_data w) one two = absurd two
+source_status kind text (of_source v) (of_flip w) one two = absurd two
 
 judged_decided : TextLaws → (kind : Wanted) (text : List ℕ) → IsDecided (Accepts kind text) (IsSourceWhy kind text)
 judged_decided laws kind text = record {
@@ -180,15 +188,27 @@ judged_decided laws kind text = record {
 
 -- ---- plans
 
+-- a plan that goes on with a fault, or without one
+flip_sound : Laws → (flip : Option (List ℕ)) (next : PlainUnit → PlainInputs → Option Fault → Plan) (unit : PlainUnit) (inputs : PlainInputs) (bytes : List ℕ) → HasFrame unit → IsMeant unit bytes inputs → ((fault : Option Fault) → IsSound (next unit inputs fault)) → IsSound (on_flip flip next unit inputs)
+unfolding IsSound
+flip_sound laws None next unit inputs bytes framed meant more = more None
+flip_sound laws (Some name) next unit inputs bytes framed meant more = λ words few. (flip_decided laws.flip_texts unit inputs bytes words framed meant, λ fault is. more (Some fault))
+
 pub plan_is_sound : Laws → (order : Order) → IsSound (plan_of order)
 unfolding IsSound
 plan_is_sound laws (print source) = λ text within. (judged_decided laws.texts Regular text, λ unit is. printed_given laws unit is.built)
-plan_is_sound laws (run_file file input) = λ text within. (
+plan_is_sound laws (run_file file input flip) = λ text within. (
   judged_decided laws.texts AnyText text,
-  λ unit is bytes few. (read_decided laws.data_texts unit bytes (framed laws unit is.built), λ inputs meant. run_given unit inputs (framed laws unit is.built)),
+  λ unit is bytes few. (
+    read_decided laws.data_texts unit bytes (framed laws unit is.built),
+    λ inputs meant. flip_sound laws flip running unit inputs bytes (framed laws unit is.built) meant (λ fault. run_given unit inputs fault (framed laws unit is.built)),
+  ),
 )
-plan_is_sound laws (attempt source input) = λ text within. (
+plan_is_sound laws (attempt source input flip) = λ text within. (
   judged_decided laws.texts Regular text,
-  λ unit is bytes few. (read_decided laws.data_texts unit bytes (laws.source_frames unit is.built.accepted), λ inputs meant. tried_given laws unit inputs is.built),
+  λ unit is bytes few. (
+    read_decided laws.data_texts unit bytes (laws.source_frames unit is.built.accepted),
+    λ inputs meant. flip_sound laws flip trying unit inputs bytes (laws.source_frames unit is.built.accepted) meant (λ fault. tried_given laws unit inputs fault is.built),
+  ),
 )
 plan_is_sound laws (report source) = λ text within. (judged_decided laws.texts AnySource text, λ unit is. report_given unit)

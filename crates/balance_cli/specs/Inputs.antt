@@ -8,7 +8,7 @@ use Rattle.data_file.specs.Conditions.{IsFrame}
 use Rattle.data_file.specs.Frames.{IsFrameOf, carried}
 use Rattle.data_file.specs.declared.refusal.DataRefusal.{DataRefusal}
 use Rattle.command_line.specs.DataRefusals.{data_refusal_text}
-use Rattle.balance_cli.specs.Whys.{Why, of_source, of_data}
+use Rattle.balance_cli.specs.Whys.{Why, of_source, of_data, of_flip}
 
 -- By the frame of the head the text means these inputs, and they fit.
 pub record IsMeant (head : PlainUnit) (text : List ℕ) (inputs : PlainInputs) : Type 0 where
@@ -30,3 +30,4 @@ pub record IsDataRefused (head : PlainUnit) (text words : List ℕ) : Type 0 whe
 abbrev pub IsDataWhy : PlainUnit → List ℕ → Why → Type 0
 IsDataWhy head text (of_source why) = ⊥
 IsDataWhy head text (of_data words) = IsDataRefused head text words
+IsDataWhy head text (of_flip why) = ⊥

@@ -3,15 +3,17 @@ use Rattle.std.specs.Prelude.{◌≡◌, ◌⊎◌, ℕ, ◌≤◌, ◌<◌, Lis
 use Rattle.edge.specs.Causes.{Rose}
 use Rattle.edge.specs.Files.{file_of}
 use Rattle.edge.specs.Shelf.{Told}
+use Rattle.c_tree.specs.Fault.{Fault}
 use Rattle.c_tree.specs.Inputs.{PlainInputs}
 use Rattle.c_tree.specs.Plain.{PlainUnit}
 use Rattle.command_line.specs.Lines.{limit_of}
 use Rattle.command_line.specs.Orders.{Order, print, run_file, attempt, report}
 use Rattle.command_line.specs.declared.outcome.FileWord.{FileWord}
-use Rattle.command_line.specs.declared.outcome.FileWord.TheVariants.{Source, File, Data}
+use Rattle.command_line.specs.declared.outcome.FileWord.TheVariants.{Source, File, Data, Flip}
 use Rattle.command_line.specs.declared.outcome.Output.{Output}
 use Rattle.command_line.specs.declared.outcome.Stop.{Stop}
 use Rattle.command_line.specs.declared.outcome.Stop.TheVariants.{ReadFault, TooLong, NoMemory}
+use Rattle.balance_cli.specs.Flips.{MeansFault, IsFlipWhy}
 use Rattle.balance_cli.specs.Inputs.{IsMeant, IsDataWhy}
 use Rattle.balance_cli.specs.Printed.{IsPrinted}
 use Rattle.balance_cli.specs.Reports.{IsReported}
@@ -35,6 +37,10 @@ judge kind text next = ask (Accepts kind text) (IsSourceWhy kind text) next
 abbrev pub read : PlainUnit → List ℕ → (PlainInputs → Plan) → Plan
 read head text next = ask (IsMeant head text) (IsDataWhy head text) next
 
+-- read a flip text by the head of a unit, on its inputs, and go on with its fault
+abbrev pub read_flip : PlainUnit → PlainInputs → List ℕ → (Option Fault → Plan) → Plan
+read_flip head inputs text next = ask (MeansFault head inputs text) (IsFlipWhy head inputs text) (λ fault. next (Some fault))
+
 -- the last stages
 abbrev pub printing : PlainUnit → Plan
 printing unit = give (IsPrinted unit)
@@ -42,11 +48,16 @@ printing unit = give (IsPrinted unit)
 abbrev pub reporting : PlainUnit → Plan
 reporting unit = give (IsReported unit)
 
-abbrev pub running : PlainUnit → PlainInputs → Plan
-running unit inputs = give (IsRun unit inputs)
+abbrev pub running : PlainUnit → PlainInputs → Option Fault → Plan
+running unit inputs fault = give (IsRun unit inputs fault)
 
-abbrev pub trying : PlainUnit → PlainInputs → Plan
-trying unit inputs = give (IsTried unit inputs)
+abbrev pub trying : PlainUnit → PlainInputs → Option Fault → Plan
+trying unit inputs fault = give (IsTried unit inputs fault)
+
+-- load the flip file, where there is one, read it by the head of the unit, and go on with its fault
+abbrev pub on_flip : Option (List ℕ) → (PlainUnit → PlainInputs → Option Fault → Plan) → PlainUnit → PlainInputs → Plan
+on_flip None next unit inputs = next unit inputs None
+on_flip (Some flip) next unit inputs = load Flip flip (λ bytes. read_flip unit inputs bytes (next unit inputs))
 
 -- load a data file, read it by the head of the unit, and go on with its inputs
 abbrev pub on_data : List ℕ → (PlainUnit → PlainInputs → Plan) → PlainUnit → Plan
@@ -54,8 +65,8 @@ on_data input next unit = load Data input (λ bytes. read unit bytes (next unit)
 
 abbrev pub plan_of : Order → Plan
 plan_of (print source) = load Source source (λ text. judge Regular text printing)
-plan_of (run_file file input) = load File file (λ text. judge AnyText text (on_data input running))
-plan_of (attempt source input) = load Source source (λ text. judge Regular text (on_data input trying))
+plan_of (run_file file input flip) = load File file (λ text. judge AnyText text (on_data input (on_flip flip running)))
+plan_of (attempt source input flip) = load Source source (λ text. judge Regular text (on_data input (on_flip flip trying)))
 plan_of (report source) = load Source source (λ text. judge AnySource text reporting)
 
 -- ---- files, where they are told

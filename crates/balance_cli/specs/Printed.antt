@@ -4,7 +4,7 @@ use Rattle.c_tree.specs.Plain.{PlainUnit}
 use Rattle.c_tree.specs.Grammar.Texts.{IsText}
 use Rattle.c_tree.specs.Layout.{layout}
 use Rattle.acceptance.specs.Printed.{IsAcceptedPrinted, StoresNothingBefore}
-use Rattle.guard_laws.specs.Guards.{GuardsInDetail}
+use Rattle.flip_laws.specs.FaultyRuns.{TellsOfFaults}
 use Rattle.command_line.specs.declared.outcome.Finish.TheVariants.{Done}
 use Rattle.command_line.specs.declared.outcome.Output.{Output}
 
@@ -16,7 +16,8 @@ pub record HasHeadOf (source unit : PlainUnit) : Type 0 where
   pub params : unit.params ≡ source.params
 
 -- The layout of a printed unit, which is a text of it by the grammar. The unit has the source's head, is accepted, stores
--- into no array before it begins, and guards the source: in detail, with all that is known of its runs beside the source's.
+-- into no array before it begins, and guards the source: in detail, with all that is known of its runs, with a fault and
+-- without, beside the source's.
 pub record IsPrinted (source : PlainUnit) (output : Output) : Type 0 where
   pub unit : PlainUnit
   pub text : output.text ≡ layout unit
@@ -24,5 +25,5 @@ pub record IsPrinted (source : PlainUnit) (output : Output) : Type 0 where
   pub head : HasHeadOf source unit
   pub accepted : IsAcceptedPrinted unit
   pub stores : StoresNothingBefore unit
-  pub guards : GuardsInDetail source unit
+  pub faults : TellsOfFaults source unit
   pub done : output.finish ≡ Done

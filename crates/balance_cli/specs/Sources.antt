@@ -13,7 +13,7 @@ use Rattle.c_tree.specs.declared.token.Token.{Token}
 use Rattle.c_parser.specs.Answers.{HasNoUnit}
 use Rattle.kernel_check.specs.Judging.{IsLowest, printed_judged}
 use Rattle.source_laws.specs.Laws.{IsRegularSource}
-use Rattle.balance_cli.specs.Whys.{Why, of_source, of_data}
+use Rattle.balance_cli.specs.Whys.{Why, of_source, of_data, of_flip}
 
 -- Which texts a command takes.
 pub data Wanted : Type 0 where
@@ -111,3 +111,4 @@ Refuses wanted text why = IsInPlace wanted text × IsRefusedUnit text why
 abbrev pub IsSourceWhy : Wanted → List ℕ → Why → Type 0
 IsSourceWhy wanted text (of_source why) = Refuses wanted text why
 IsSourceWhy wanted text (of_data words) = ⊥
+IsSourceWhy wanted text (of_flip why) = ⊥

@@ -8,6 +8,7 @@ use Rattle.c_tree.specs.Grammar.Tokens.{is_printed}
 use Rattle.c_tree.specs.Plain.{PlainUnit}
 use Rattle.c_tree.specs.Trees.{unit}
 use Rattle.c_tree.specs.declared.frame.Frame.{Frame}
+use Rattle.c_tree.specs.declared.frame.Inputs.{Inputs}
 use Rattle.c_tree.specs.declared.refusal.Refusal.{Refusal}
 use Rattle.c_tree.specs.declared.refusal.Refusal.TheVariants as refusal
 use Rattle.data_file.specs.Answers.{IsRefused}
@@ -19,11 +20,12 @@ use Rattle.command_line.specs.DataRefusals.{data_refusal_text}
 use Rattle.command_line.specs.Lines.{limit_of}
 use Rattle.command_line.specs.declared.outcome.FileWord.{FileWord}
 use Rattle.command_line.specs.declared.outcome.Stop.{Stop}
-use Rattle.command_line.specs.declared.outcome.Stop.TheVariants.{ReadFault, TooLong, SourceRefused, DataRefused, NoMemory}
+use Rattle.command_line.specs.declared.outcome.Stop.TheVariants.{ReadFault, TooLong, SourceRefused, DataRefused, FlipRefused, NoMemory}
+use Rattle.fault_plan.specs.Answers.{IsRefused as IsRefusedFlip}
 use Rattle.kernel_check.specs.Judging.{IsLowest}
 use Rattle.balance_cli.specs.Plans.{IsFile, IsTooLong}
 use Rattle.balance_cli.specs.Sources.{Wanted, judged_of, IsBuilt, IsUnbuiltUnit, Refuses, IsSourceWhy}
-use Rattle.balance_cli.specs.Whys.{Why, of_source, of_data, StopsFor}
+use Rattle.balance_cli.specs.Whys.{Why, of_source, of_data, of_flip, StopsFor}
 use Rattle.balance_cli.specs.declared.runnable.Runnable.{Runnable}
 use Rattle.balance_cli.specs.declared.runnable.Runnable.TheVariants as runnable
 
@@ -40,6 +42,7 @@ IsLoad word name before now (Err (ReadFault w)) = Asks before now (name ∷ []) 
 IsLoad word name before now (Err (TooLong w)) = Asks before now (name ∷ []) × (w ≡ word) × IsTooLong before.files name (limit_of word)
 IsLoad word name before now (Err (SourceRefused why)) = ⊥
 IsLoad word name before now (Err (DataRefused why)) = ⊥
+IsLoad word name before now (Err (FlipRefused why)) = ⊥
 IsLoad word name before now (Err NoMemory) = Asks before now []
 
 -- ---- one text
@@ -98,3 +101,12 @@ IsDataStop f why cause = (cause ≡ NoMemory) ⊎ ((why ≡ data_refusal.OutOfMe
 abbrev pub IsFrameWhy : Frame → List ℕ → Why → Type 0
 IsFrameWhy f text (of_source why) = ⊥
 IsFrameWhy f text (of_data words) = (why : DataRefusal) × IsRefused f text why × (words ≡ data_refusal_text f why)
+IsFrameWhy f text (of_flip why) = ⊥
+
+-- ---- one flip text
+
+-- the reasons for which a flip text is refused by a frame
+abbrev pub IsFlipWhyBy : Frame → Inputs → List ℕ → Why → Type 0
+IsFlipWhyBy f i text (of_source why) = ⊥
+IsFlipWhyBy f i text (of_data words) = ⊥
+IsFlipWhyBy f i text (of_flip why) = IsRefusedFlip f i text why

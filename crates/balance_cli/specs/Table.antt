@@ -3,6 +3,7 @@ use Rattle.std.specs.Prelude.{◌≡◌, ◌⊎◌, ℕ, List, [], ◌++◌, Opt
 use Rattle.edge.specs.Causes.{Rose}
 use Rattle.edge.specs.Sink.{appended, AppendsPart}
 use Rattle.c_tree.specs.declared.refusal.Refusal.{Refusal}
+use Rattle.fault_plan.specs.declared.refusal.FlipRefusal.{FlipRefusal}
 use Rattle.balance_cli.specs.Calls.{OnlyTells}
 use Rattle.command_line.specs.Tried.{Tries}
 use Rattle.command_line.specs.Lines.{line_of, usage_line, write_line, memory_line}
@@ -43,7 +44,7 @@ pub record IsWriteFault (order : Order) (met : Met) : Type 0 where
   pub part : AppendsPart met.out_before.bytes met.out.bytes output.text
   pub line : Tries met.err_before met.err write_line
 
--- 5, 6, 10: a stage refuses
+-- 5, 6, 7, 10: a stage refuses
 pub record IsStopped (order : Order) (cause : Stop) (met : Met) : Type 0 where
   pub defined : Defined (plan_of order) (files_before met) (Err cause)
   pub unwritten : met.out ≡ met.out_before
@@ -66,7 +67,7 @@ Cause (Some order) met ReadFault = IsReadFault order met
 Cause (Some order) met WriteFault = IsWriteFault order met
 Cause (Some order) met SourceRefused = (refusal : Refusal) × IsStopped order (stop.SourceRefused refusal) met
 Cause (Some order) met DataRefused = (why : List ℕ) × IsStopped order (stop.DataRefused why) met
-Cause (Some order) met FlipRefused = ⊥
+Cause (Some order) met FlipRefused = (refusal : FlipRefusal) × IsStopped order (stop.FlipRefused refusal) met
 Cause (Some order) met Outside = IsDone order finish.Outside met
 Cause (Some order) met NoMemory = IsOutOfMemory met
 Cause (Some order) met TooLong = (word : FileWord) × IsStopped order (stop.TooLong word) met

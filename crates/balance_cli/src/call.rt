@@ -14,13 +14,15 @@ use command_line::{
     Command, Output, Status, Stop, cannot_write, command_of, finished, line, no_memory, status_of,
     try_line, usage,
 };
-use data_file::{one_answer, some_answer};
+use data_file::{fits_as_frame, fits_as_meant, one_answer, some_answer};
 use edge::{Shelf, Sink, write_all};
+use fault_plan::{one_flip_answer, some_flip_answer};
+use flip_laws::accepted_sources_tell_of_faults;
 use frame_laws::{accepted_units_have_frames, frames_say_the_same, same_frames_act_alike};
 use grammar_reading::unit_or_none;
 use kernel_check::refused_or_not;
 use layout_laws::preamble_tells_the_version;
-use source_laws::{accepted_sources_are_guarded, accepted_sources_are_printed};
+use source_laws::accepted_sources_are_printed;
 use std::alloc::Global;
 use tree_texts::{instrumented_units_have_texts, texts_have_trees};
 
@@ -100,10 +102,14 @@ pub fn balance<F: Shelf, O: Sink, E: Sink>(
     refused_or_not();
     one_answer();
     some_answer();
+    one_flip_answer();
+    some_flip_answer();
+    fits_as_frame();
+    fits_as_meant();
     accepted_units_have_frames();
     frames_say_the_same();
     same_frames_act_alike();
-    accepted_sources_are_guarded();
+    accepted_sources_tell_of_faults();
     accepted_sources_are_printed();
     instrumented_units_have_texts();
     answered(alloc, words, shelf, out, err)

@@ -1,5 +1,5 @@
 //! Prints the instrumented text of a source, and runs a source, its instrumented unit or a printed
-//! text on a data file. `balance` is the top call, over any shelf and sinks; `main` gives it the
+//! text on a data file, with a flip of one bit or without. `balance` is the top call, over any shelf and sinks; `main` gives it the
 //! arguments, the files of the system and the standard streams.
 #![tactic(auto)]
 
@@ -8,6 +8,7 @@ ghost use Rattle.std.specs.Vec.Iter.{into_iter_items};
 
 mod call;
 mod checking;
+mod faults;
 mod inputs;
 mod judging;
 mod runnable;

@@ -1,12 +1,14 @@
 //! The last stages of the commands that run a unit.
 
-ghost use Rattle.std.specs.Prelude.{◌≡◌, IfOk, MatchResult, None};
+ghost use Rattle.std.specs.Prelude.{◌≡◌, IfOk, IfSome, MatchResult, option_map};
 ghost use Rattle.acceptance.specs.Runnable.{IsRunnable};
 ghost use Rattle.c_tree.specs.Inputs.{Fit};
 ghost use Rattle.c_tree.specs.Run as runs;
 ghost use Rattle.c_tree.specs.Trees.{unit as unit_in};
 ghost use Rattle.data_file.specs.Conditions.{IsEndOf};
+ghost use Rattle.fault_plan.specs.Units.{fault_in};
 ghost use Rattle.interp.specs.Finished.{inputs_in, verdict_in, IsEnded};
+ghost use Rattle.interp.specs.Flips.{IsFaultFor};
 ghost use Rattle.balance_cli.specs.Runs.{finish_of as finish_at, IsShown, IsRun, IsTried};
 ghost use Rattle.balance_cli.specs.Sources.{AnyText, Regular};
 ghost use Rattle.balance_cli.specs.Stages.{IsFramed, frame_of, unit_of};
@@ -14,7 +16,7 @@ ghost use Rattle.command_line.specs.declared.outcome.Stop.TheVariants.{NoMemory}
 
 use crate::runnable::Runnable;
 use built_forms::built_make_no_table;
-use c_tree::{Ended, Frame, Inputs, OutOfMemory, Unit, Verdict};
+use c_tree::{Ended, Flip, Frame, Inputs, OutOfMemory, Unit, Verdict};
 use command_line::{Finish, Output, Stop};
 use data_file::output;
 use edge::ByteList;
@@ -44,38 +46,56 @@ fn shown(alloc: Global, frame: &Frame, ended: &Ended) -> Result<Output, Stop>
     })
 }
 
-// The end of the run of a unit. No unit has 2^31 parameters in earnest.
-fn end_of(alloc: Global, unit: &Unit, inputs: &Inputs) -> Result<Ended, OutOfMemory>
+// The end of the run of a unit under a flip. No unit has 2^31 parameters in earnest.
+fn end_of(
+    alloc: Global,
+    unit: &Unit,
+    inputs: &Inputs,
+    flip: Option<&Flip>,
+) -> Result<Ended, OutOfMemory>
     requires form { IsRunnable (unit_in unit.now) }
     requires fits { Fit (unit_in unit.now) (inputs_in inputs.now) }
-    ensures { IfOk result (IsEnded (runs.run (unit_in unit.now) (inputs_in inputs.now) None)) }
+    requires flip_fits { IfSome flip (λ f. IsFaultFor (unit_in unit.now) (inputs_in inputs.now) (fault_in f.now)) }
+    ensures { IfOk result (IsEnded (runs.run (unit_in unit.now) (inputs_in inputs.now) (option_map (λ f. fault_in f.now) flip.entry))) }
 {
     if unit.params.len() < 1 << 31 {
-        interp::run(alloc, unit, inputs, None)
+        interp::run(alloc, unit, inputs, flip)
     } else {
         Err(OutOfMemory)
     }
 }
 
-/// The output of the run of a source or of a printed unit, by its frame.
-pub fn ran(alloc: Global, taken: &Runnable, inputs: &Inputs) -> Result<Output, Stop>
+/// The output of the run of a source or of a printed unit under a flip, by its frame.
+pub fn ran(
+    alloc: Global,
+    taken: &Runnable,
+    inputs: &Inputs,
+    flip: Option<&Flip>,
+) -> Result<Output, Stop>
     requires framed { IsFramed AnyText (unit_of taken.now) (frame_of taken.now) }
     requires fits { Fit (unit_of taken.now) (inputs_in inputs.now) }
-    ensures { MatchResult result (IsRun (unit_of taken.now) (inputs_in inputs.now)) (λ cause. cause ≡ NoMemory) }
+    requires flip_fits { IfSome flip (λ f. IsFaultFor (unit_of taken.now) (inputs_in inputs.now) (fault_in f.now)) }
+    ensures { MatchResult result (IsRun (unit_of taken.now) (inputs_in inputs.now) (option_map (λ f. fault_in f.now) flip.entry)) (λ cause. cause ≡ NoMemory) }
 {
     built_make_no_table();
-    let ended = end_of(alloc, taken.unit(), inputs)?;
+    let ended = end_of(alloc, taken.unit(), inputs, flip)?;
     shown(alloc, taken.frame(), &ended)
 }
 
-/// The output of the run of a source's instrumented unit, by the source's frame.
-pub fn tried(alloc: Global, source: &Kernel, inputs: &Inputs) -> Result<Output, Stop>
+/// The output of the run of a source's instrumented unit under a flip, by the source's frame.
+pub fn tried(
+    alloc: Global,
+    source: &Kernel,
+    inputs: &Inputs,
+    flip: Option<&Flip>,
+) -> Result<Output, Stop>
     requires framed { IsFramed Regular (unit_in source.now.unit) source.now.frame }
     requires fits { Fit (unit_in source.now.unit) (inputs_in inputs.now) }
-    ensures { MatchResult result (IsTried (unit_in source.now.unit) (inputs_in inputs.now)) (λ cause. cause ≡ NoMemory) }
+    requires flip_fits { IfSome flip (λ f. IsFaultFor (unit_in source.now.unit) (inputs_in inputs.now) (fault_in f.now)) }
+    ensures { MatchResult result (IsTried (unit_in source.now.unit) (inputs_in inputs.now) (option_map (λ f. fault_in f.now) flip.entry)) (λ cause. cause ≡ NoMemory) }
 {
     instrumented_units_have_texts();
     let guarded = instrument(alloc, source, Options { split: false })?;
-    let ended = end_of(alloc, &guarded, inputs)?;
+    let ended = end_of(alloc, &guarded, inputs, flip)?;
     shown(alloc, source.frame(), &ended)
 }

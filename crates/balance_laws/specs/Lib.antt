@@ -1,3 +1,4 @@
 pub mod Totals
 pub mod Replay
 pub mod Laws
+pub mod Independence

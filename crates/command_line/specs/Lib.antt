@@ -1,5 +1,6 @@
 pub mod Commands
 pub mod DataRefusals
+pub mod FlipRefusals
 pub mod Lines
 pub mod Orders
 pub mod Refusals

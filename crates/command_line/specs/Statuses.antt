@@ -27,6 +27,7 @@ status_of (stop.ReadFault word) = status.ReadFault
 status_of (stop.TooLong word) = status.TooLong
 status_of (stop.SourceRefused refusal) = status.SourceRefused
 status_of (stop.DataRefused why) = status.DataRefused
+status_of (stop.FlipRefused refusal) = status.FlipRefused
 status_of stop.NoMemory = status.NoMemory
 
 -- the status of a call that has written its text

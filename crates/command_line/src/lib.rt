@@ -2,6 +2,7 @@
 #![tactic(auto)]
 
 mod data_refusals;
+mod flip_refusals;
 mod lines;
 mod outcome;
 mod refusals;
@@ -9,6 +10,7 @@ mod status;
 mod words;
 
 pub use data_refusals::data_refusal_text;
+pub use flip_refusals::flip_refusal_text;
 pub use lines::{cannot_write, line, no_memory, try_line, usage};
 pub use outcome::{FileWord, Finish, Output, Stop};
 pub use status::{Status, finished, status_of};

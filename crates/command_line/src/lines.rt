@@ -2,10 +2,11 @@
 
 ghost use Rattle.std.specs.Prelude.{◌≡◌, IfOk, string_bytes};
 ghost use Rattle.command_line.specs.Tried.{Tries};
-ghost use Rattle.command_line.specs.Commands.{ordered};
-ghost use Rattle.command_line.specs.Lines.{line_of, usage_line, write_line, memory_line, fault_line, too_long_line, refused_line, by_word as by_word_at, name_of as name_at};
+ghost use Rattle.command_line.specs.Commands.{given, ordered};
+ghost use Rattle.command_line.specs.Lines.{line_of, usage_line, write_line, memory_line, fault_line, too_long_line, refused_line, flip_name as flip_name_at, by_word as by_word_at, name_of as name_at};
 ghost use Rattle.command_line.specs.Refusals.{refusal_text as text_of};
 
+use crate::flip_refusals::flip_refusal_text;
 use crate::outcome::{FileWord, Stop};
 use crate::refusals::refusal_text;
 use crate::status::Status;
@@ -31,12 +32,23 @@ pub fn cannot_write() -> &'static [u8]
     b"balance: cannot write\n"
 }
 
-// The second for data, and else the first.
-fn by_word<'a>(word: FileWord, first: &'a str, second: &'a str) -> &'a str
-    ensures { result.now ≡ by_word_at word first.entry.now second.entry.now }
+// The first where there is no flip.
+fn flip_name<'a>(flip: Option<&'a str>, first: &'a str) -> &'a str
+    ensures { result.now ≡ flip_name_at (given flip.entry) first.entry.now }
+{
+    match flip {
+        Some(name) => name,
+        None => first,
+    }
+}
+
+// The second for data, the flip's for a flip, and else the first.
+fn by_word<'a>(word: FileWord, first: &'a str, second: &'a str, flip: Option<&'a str>) -> &'a str
+    ensures { result.now ≡ by_word_at word first.entry.now second.entry.now (given flip.entry) }
 {
     match word {
         FileWord::Data => second,
+        FileWord::Flip => flip_name(flip, first),
         FileWord::Source | FileWord::File => first,
     }
 }
@@ -47,8 +59,12 @@ fn name_of<'a>(command: Command<'a>, word: FileWord) -> &'a str
 {
     match command {
         Command::Print { source } | Command::Report { source } => source,
-        Command::Run { file, input } => by_word(word, file, input),
-        Command::Attempt { source, input } => by_word(word, source, input),
+        Command::Run { file, input, flip } => by_word(word, file, input, flip),
+        Command::Attempt {
+            source,
+            input,
+            flip,
+        } => by_word(word, source, input, flip),
     }
 }
 
@@ -71,8 +87,8 @@ fn refused(alloc: Global, name: &str, refusal: Refusal) -> Result<String, AllocE
     format!(in alloc; "balance: {name}: {why}\n")
 }
 
-// The names of a data file's refusal are bytes.
-fn data_refused(alloc: Global, name: &str, why: &[u8]) -> Result<ByteList, OutOfMemory>
+// The words of a data file's refusal, and of a flip file's, are bytes.
+fn refused_in(alloc: Global, name: &str, why: &[u8]) -> Result<ByteList, OutOfMemory>
     ensures { IfOk result (λ line. line ≡ refused_line name.now why.now) }
 {
     let mut line = Writer::new(alloc);
@@ -106,10 +122,15 @@ pub fn line(alloc: Global, command: Command<'_>, cause: &Stop) -> Result<ByteLis
             name_of(command, FileWord::Source),
             *refusal,
         )?)),
-        Stop::DataRefused(why) => data_refused(
+        Stop::DataRefused(why) => refused_in(
             alloc,
             name_of(command, FileWord::Data),
             why.as_slice(),
+        ),
+        Stop::FlipRefused(refusal) => refused_in(
+            alloc,
+            name_of(command, FileWord::Flip),
+            flip_refusal_text(*refusal),
         ),
         Stop::NoMemory => Ok(bytes_of(String::from_str(alloc, "balance: no memory\n")?)),
     }

@@ -5,6 +5,7 @@ ghost use Rattle.command_line.specs.Lines.{limit_of};
 
 use c_tree::{OutOfMemory, Refusal};
 use edge::ByteList;
+use fault_plan::FlipRefusal;
 
 /// Which of a command's files.
 #[derive(Clone, Copy, Debug, PartialEq, Eq)]
@@ -12,6 +13,7 @@ pub enum FileWord {
     Source,
     File,
     Data,
+    Flip,
 }
 
 impl FileWord {
@@ -23,6 +25,7 @@ impl FileWord {
             FileWord::Source => 262_144,
             FileWord::File => 16_777_216,
             FileWord::Data => 67_108_864,
+            FileWord::Flip => 65_536,
         }
     }
 }
@@ -35,6 +38,7 @@ pub enum Stop {
     SourceRefused(Refusal),
     /// With the words of its line.
     DataRefused(ByteList),
+    FlipRefused(FlipRefusal),
     NoMemory,
 }
 
@@ -59,6 +63,20 @@ impl From<Refusal> for Stop {
         match refusal {
             Refusal::OutOfMemory => Stop::NoMemory,
             _ => Stop::SourceRefused(refusal),
+        }
+    }
+}
+
+impl From<FlipRefusal> for Stop {
+    ghost use Rattle.std.specs.Prelude.{◌≡◌};
+    ghost use Rattle.command_line.specs.Stops.{flip_stop_of};
+
+    ghost from_gives = { λ refusal cause. cause ≡ flip_stop_of refusal };
+
+    fn from(refusal: FlipRefusal) -> Self {
+        match refusal {
+            FlipRefusal::OutOfMemory => Stop::NoMemory,
+            _ => Stop::FlipRefused(refusal),
         }
     }
 }

@@ -57,6 +57,7 @@ pub fn status_of(cause: &Stop) -> Status
         Stop::TooLong(_) => Status::TooLong,
         Stop::SourceRefused(_) => Status::SourceRefused,
         Stop::DataRefused(_) => Status::DataRefused,
+        Stop::FlipRefused(_) => Status::FlipRefused,
         Stop::NoMemory => Status::NoMemory,
     }
 }

@@ -11,7 +11,7 @@ use Rattle.acceptance.specs.Head.{list_of}
 use Rattle.acceptance.specs.Parts.{has_signed, subscript_holds, subscripts_hold, parts_hold, item_parts_hold, cells_hold}
 use Rattle.acceptance.specs.Sources.{is_const_array, are_indexed, assigned_cells_hold, bad_index_array, judged, IsAcceptedSource}
 use Rattle.accepted_laws.proofs.Clear.{one_of, Clear, unrefused, all_front, all_back}
-use Rattle.flip_laws.specs.Independence.{StandsIn, StandsAmong, StandsInStmt, StandsInStmts, IsIndexedBy, AreApart}
+use Rattle.balance_laws.specs.Independence.{StandsIn, StandsAmong, StandsInStmt, StandsInStmts, IsIndexedBy, AreApart}
 
 -- a subscript that is a cell stands among the subscripts
 indexed_stands : (es : PlainExprs) (y : Word) → IsIndexedBy y es → (at : PlainExprs) × StandsAmong y at es

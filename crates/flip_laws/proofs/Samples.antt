@@ -2,7 +2,8 @@
 use Rattle.std.proofs.Common.{◌≡◌, ⊎_elim, refl, codes, subst, inl, inr}
 use Rattle.acceptance.specs.WorkedSources.{gather, at as cell_at}
 use Rattle.c_tree.specs.Plain.{Word, PlainExprs, more_exprs, no_exprs, var}
-use Rattle.flip_laws.specs.Independence.{IsIndexedBy, IsIndexArray, AreApart, own_index}
+use Rattle.balance_laws.specs.Independence.{IsIndexedBy, IsIndexArray, AreApart}
+use Rattle.flip_laws.specs.Apart.{own_index}
 
 abbrev of_p : PlainExprs
 of_p = more_exprs (cell_at (codes "P") (var (codes "i"))) no_exprs

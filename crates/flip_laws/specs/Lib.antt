@@ -1,2 +1,2 @@
 pub mod FaultyRuns
-pub mod Independence
+pub mod Apart

@@ -5,7 +5,8 @@ ghost use Rattle.std.specs.Prelude.{◌≡◌, codes, List, ℕ};
 ghost use Rattle.acceptance.specs.WorkedSources.{gather, mix};
 ghost use Rattle.instrumentation.specs.Guarded.{guarded};
 ghost use Rattle.flip_laws.specs.FaultyRuns.{AcceptedTellOfFaults, ReadyTellOfFaults, TellsOfFaults};
-ghost use Rattle.flip_laws.specs.Independence.{AcceptedAreApart, AreApart, IndexArraysAreAll, IsIndexArray, OwnValuesAreNothing, PlacesAreFixed, own_index};
+ghost use Rattle.balance_laws.specs.Independence.{AreApart, IsIndexArray};
+ghost use Rattle.flip_laws.specs.Apart.{AcceptedAreApart, own_index};
 
 /// Under every fault the instrumented unit of a source that has the forms that passes ask for takes its source's steps, and has the totals of what this run read and wrote. A fault that isn't exposed shows in nothing but the one bit, where that stays.
 pub fn ready_sources_tell_of_faults()
@@ -28,13 +29,6 @@ pub fn accepted_sources_tell_of_faults()
     ready_sources_tell_of_faults();
     source_laws::accepted_sources_follow();
 }
-
-/// The instances and the places of a source's accesses depend on its parameters alone, the accesses of an array not on that array's own values, and the whole list on parameters and index arrays alone.
-pub fn control_is_independent()
-    ensures places { PlacesAreFixed }
-    ensures own { OwnValuesAreNothing }
-    ensures list { IndexArraysAreAll }
-{}
 
 /// No cell of an accepted source, with irregular subscripts or without, is a subscript of its own array.
 pub fn accepted_sources_are_apart()

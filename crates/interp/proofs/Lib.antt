@@ -3,6 +3,7 @@ pub mod CellRows
 pub mod CellsApart
 pub mod StandsSame
 pub mod StandsCells
+pub mod Strikes
 pub mod StandsAccess
 pub mod StandsNames
 pub mod StandsSigned

@@ -10,3 +10,4 @@ pub mod Shown
 pub mod Heads
 pub mod Started
 pub mod Finished
+pub mod Flips

@@ -1,6 +1,7 @@
 -- What a step of the interpreter may come to, and the steps that read and change its state.
-use Rattle.std.specs.Prelude.{◌≡◌, ℕ, ◌+◌, ◌-◌, ◌^◌, min, true, if◌then◌else◌, List, ℤ, Option, Some, None, Result, Ok, Err, slice_get, slice_set, slice_index}
+use Rattle.std.specs.Prelude.{◌≡◌, ℕ, ◌+◌, ◌-◌, ◌^◌, min, true, ◌&&◌, if◌then◌else◌, nat_eq, nat_le, bit_xor, List, ℤ, Option, Some, None, Result, Ok, Err, slice_get, slice_set, slice_index}
 use Rattle.interp.specs.declared.machine.Machine.{Machine}
+use Rattle.interp.specs.declared.machine.Strike.{Strike}
 use Rattle.interp.specs.declared.stop.Stop.{Stop}
 use Rattle.interp.specs.declared.stop.Stop.TheVariants as stop
 use Rattle.interp.specs.Places.{Placed, place_of}
@@ -73,6 +74,31 @@ with_turn m =
 abbrev pub counts_access : Machine → Machine
 counts_access m = if m.begun then with_access m else m
 
+-- ---- the bit that is inverted
+
+-- cells with the bit inverted
+abbrev pub inverted_in : Strike → List ℕ → List ℕ
+inverted_in k ns = slice_set ns k.cell (bit_xor (slice_index ns k.cell) k.mask)
+
+abbrev pub with_bit : Strike → Machine → Machine
+with_bit k m = record m { cells = inverted_in k m.cells }
+
+abbrev pub struck_by : Option Strike → Machine → Machine
+struck_by None m = m
+struck_by (Some k) m = if m.begun && nat_eq m.accesses k.place then with_bit k m else m
+
+-- it is inverted immediately before the access with its number
+abbrev pub struck : Machine → Machine
+struck m = struck_by m.strike m
+
+abbrev pub late_by : Option Strike → Machine → Machine
+late_by None m = m
+late_by (Some k) m = if m.begun && nat_le m.accesses k.place then with_bit k m else m
+
+-- as a run ends it is inverted where no access of its number was made, and never before `begin`
+abbrev pub struck_at_end : Machine → Machine
+struck_at_end m = late_by m.strike m
+
 -- ---- cells
 
 abbrev pub with_cell : ℕ → ℕ → Machine → Machine
@@ -91,10 +117,10 @@ abbrev pub finds : List Placed → ℕ → List ℤ → Act ℕ
 finds ps a cs = found_in a cs (slice_get ps a)
 
 abbrev pub loads : ℕ → Act ℕ
-loads place = λ m. went (slice_index m.cells place) (counts_access m)
+loads place = λ m. let t = struck m in went (slice_index t.cells place) (counts_access t)
 
 abbrev pub stores : ℕ → ℕ → Act (Unit {0})
-stores place n = changes (λ m. counts_access (with_cell place n m))
+stores place n = changes (λ m. counts_access (with_cell place n (struck m)))
 
 -- ---- words and wide values
 

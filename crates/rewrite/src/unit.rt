@@ -6,7 +6,7 @@ ghost use Rattle.acceptance.specs.Printed.{IsAcceptedPrinted, StoresNothingBefor
 ghost use Rattle.acceptance.specs.Runnable.{IsRunnable};
 ghost use Rattle.acceptance.specs.Trees.{IsPrintedTree};
 ghost use Rattle.instrumentation.specs.Guarded.{guarded};
-ghost use Rattle.guard_laws.specs.Guards.{GuardsInDetail};
+ghost use Rattle.flip_laws.specs.FaultyRuns.{TellsOfFaults};
 ghost use Rattle.source_laws.specs.Laws.{IsRegularSource};
 
 use c_tree::{OutOfMemory, Unit};
@@ -35,12 +35,12 @@ pub fn instrument(alloc: Global, k: &Kernel, o: Options) -> Result<Unit, OutOfMe
     // The interpreter runs it.
     ensures runs { IfOk result (λ made. IsRunnable (unit made)) }
 
-    // What its runs are, beside those of the source.
-    ensures guards { IfOk result (λ made. GuardsInDetail (unit k.now.unit) (unit made)) }
+    // What its runs are, with a fault and without, beside those of the source.
+    ensures faults { IfOk result (λ made. TellsOfFaults (unit k.now.unit) (unit made)) }
 {
     let Options { split: _ } = o;
     source_laws::accepted_sources_are_printed();
-    source_laws::accepted_sources_are_guarded();
+    flip_laws::accepted_sources_tell_of_faults();
     unit_builder::accepted_sources_are_small();
     unit_builder::instrumented_unit(alloc, k.unit())
 }

@@ -309,7 +309,7 @@ fn ends_by_the_table(rt: HostRuntime) -> Result<(), Fail> {
         ),
         (
             SHIFT_FILE,
-            "try shift.c d1 f1",
+            "try shift.c d1 f1 f2",
             NONE,
             Status::Usage,
             0,
@@ -420,6 +420,15 @@ fn refuses_texts(rt: HostRuntime) -> Result<(), Fail> {
     Ok(())
 }
 
+// A flip file named f1.
+fn flip_file(text: &'static str) -> Source {
+    Source {
+        name: "f1",
+        text,
+        length: 0,
+    }
+}
+
 // A data file named d1.
 fn data_file(text: &'static str) -> Source {
     Source {
@@ -511,8 +520,13 @@ fn runs_on_data(rt: HostRuntime) -> Result<(), Fail> {
     Ok(())
 }
 
-// The output of `run` on the text that `print` writes of a source.
-fn run_of_printed(alloc: Global, text: &'static str, values: &'static str) -> Result<Left, Fail> {
+// The output of `run` on the text that `print` writes of a source, with these other files.
+fn run_of_printed(
+    alloc: Global,
+    text: &'static str,
+    others: &[Source],
+    line: &str,
+) -> Result<Left, Fail> {
     let source = Source {
         name: "k.c",
         text,
@@ -524,8 +538,10 @@ fn run_of_printed(alloc: Global, text: &'static str, values: &'static str) -> Re
         String::from_str(alloc, "k.out.c")?,
         ByteList::new(Vec::from_slice(alloc, printed.out.bytes.as_slice())?),
     ))?;
-    files.push(padded(alloc, &data_file(values))?)?;
-    called(alloc, files, "run k.out.c d1", NONE)
+    for file in others {
+        files.push(padded(alloc, file)?)?;
+    }
+    called(alloc, files, line, NONE)
 }
 
 #[test]
@@ -546,10 +562,168 @@ fn runs_what_it_prints(rt: HostRuntime) -> Result<(), Fail> {
             "A = 2 0 3 0\nC = 2 2\nbalanced\n",
         ),
     ] {
-        let left = run_of_printed(rt.alloc(), text, values)?;
+        let left = run_of_printed(rt.alloc(), text, &[data_file(values)], "run k.out.c d1")?;
         assert_eq!(rt; left.status, status, "{values}");
         assert_eq!(rt; left.out.bytes.as_slice(), out.as_bytes(), "{values}");
         assert_eq!(rt; left.err.bytes.as_slice(), b"".as_slice(), "{values}");
+    }
+    Ok(())
+}
+
+// The source in the file k.c, its data, the flip, and the status and the output of `try`.
+const FLIPS: [(&str, &str, &str, Status, &str); 8] = [
+    (
+        SHIFT,
+        SHIFT_DATA,
+        "flip A 1 3 at 2\n",
+        Status::Reported,
+        "A = 5 14 15 16\nfault A\n",
+    ),
+    (
+        SHIFT,
+        SHIFT_DATA,
+        "flip A 1 3 at 1\n",
+        Status::Done,
+        BALANCED,
+    ),
+    (
+        SHIFT,
+        SHIFT_DATA,
+        "flip A 1 3 at 3\n",
+        Status::Done,
+        "A = 5 14 7 8\nbalanced\n",
+    ),
+    (
+        SHIFT,
+        SHIFT_DATA,
+        "flip A 1 3 at 6",
+        Status::Done,
+        "A = 5 14 7 8\nbalanced\n",
+    ),
+    (
+        SHIFT,
+        SHIFT_DATA,
+        "\n \nflip A 1 3 at 99\r\n",
+        Status::Done,
+        "A = 5 14 7 8\nbalanced\n",
+    ),
+    (
+        SHIFT,
+        SHIFT_DATA,
+        "flip A 3 63 at 18446744073709551615\n",
+        Status::Done,
+        "A = 5 6 7 9223372036854775816\nbalanced\n",
+    ),
+    (
+        BOTH,
+        "A = 1\nB = 0 0\n",
+        "flip A 0 63 at 0\n",
+        Status::Reported,
+        "B = 9223372036854775809 9223372036854775809\nfault A\n",
+    ),
+    (
+        WIDE,
+        SHIFT_DATA,
+        "flip A 0 0 at 0\n",
+        Status::Outside,
+        "A = 4 5 6 7\noutside A\n",
+    ),
+];
+
+#[test]
+fn runs_under_flips(rt: HostRuntime) -> Result<(), Fail> {
+    for (text, values, flip, status, out) in FLIPS {
+        let alloc = rt.alloc();
+        let source = Source {
+            name: "k.c",
+            text,
+            length: 0,
+        };
+        let files = [source, data_file(values), flip_file(flip)];
+        let tried = call(alloc, &files, "try k.c d1 f1", NONE)?;
+        let others = [data_file(values), flip_file(flip)];
+        let run = run_of_printed(alloc, text, &others, "run k.out.c d1 f1")?;
+        for left in [&tried, &run] {
+            assert_eq!(rt; left.status, status, "{flip}");
+            assert_eq!(rt; left.loads, 3, "{flip}");
+            assert_eq!(rt; left.out.bytes.as_slice(), out.as_bytes(), "{flip}");
+            assert_eq!(rt; left.err.bytes.as_slice(), b"".as_slice(), "{flip}");
+        }
+    }
+    Ok(())
+}
+
+#[test]
+fn runs_sources_under_flips(rt: HostRuntime) -> Result<(), Fail> {
+    for (flip, out) in [
+        ("flip A 1 3 at 2\n", "A = 5 14 15 16\nplain\n"),
+        ("flip A 3 0 at 0\n", "A = 5 6 7 8\nplain\n"),
+    ] {
+        let files = [SHIFT_FILE, data_file(SHIFT_DATA), flip_file(flip)];
+        let left = call(rt.alloc(), &files, "run shift.c d1 f1", NONE)?;
+        assert_eq!(rt; left.status, Status::Done, "{flip}");
+        assert_eq!(rt; left.out.bytes.as_slice(), out.as_bytes(), "{flip}");
+    }
+    Ok(())
+}
+
+#[test]
+fn refuses_flips(rt: HostRuntime) -> Result<(), Fail> {
+    for (flip, told) in [
+        ("flip A 0 0\n", "balance: f1: F1 Syntax\n"),
+        ("flip B 0 0 at 0\n", "balance: f1: F2 UnknownArray\n"),
+        ("flip A 4 0 at 0\n", "balance: f1: F3 CellOutside\n"),
+        ("flip A 3 64 at 0\n", "balance: f1: F4 BitOutside\n"),
+    ] {
+        let files = [SHIFT_FILE, data_file(SHIFT_DATA), flip_file(flip)];
+        for line in ["try shift.c d1 f1", "run shift.c d1 f1"] {
+            let left = call(rt.alloc(), &files, line, NONE)?;
+            assert_eq!(rt; left.status, Status::FlipRefused, "{flip}");
+            assert_eq!(rt; left.loads, 3, "{flip}");
+            assert_eq!(rt; left.out.bytes.as_slice(), b"".as_slice(), "{flip}");
+            assert_eq!(rt; left.err.bytes.as_slice(), told.as_bytes(), "{flip}");
+        }
+    }
+    Ok(())
+}
+
+#[test]
+fn takes_flip_files_up_to_their_limit(rt: HostRuntime) -> Result<(), Fail> {
+    for (length, status, told) in [
+        (65_536usize, Status::Reported, ""),
+        (
+            65_537,
+            Status::TooLong,
+            "balance: f1 is longer than 65536 bytes\n",
+        ),
+    ] {
+        let flip = Source {
+            length,
+            ..flip_file("flip A 1 3 at 2\n")
+        };
+        let files = [SHIFT_FILE, data_file(SHIFT_DATA), flip];
+        let left = call(rt.alloc(), &files, "try shift.c d1 f1", NONE)?;
+        assert_eq!(rt; left.status, status, "{length}");
+        assert_eq!(rt; left.err.bytes.as_slice(), told.as_bytes(), "{length}");
+    }
+    Ok(())
+}
+
+#[test]
+fn stops_at_each_load_that_fails(rt: HostRuntime) -> Result<(), Fail> {
+    for (load, told) in [
+        (1u64, "balance: cannot read shift.c\n"),
+        (2, "balance: cannot read d1\n"),
+        (3, "balance: cannot read f1\n"),
+    ] {
+        let failing = Failing { load, ..NONE };
+        let flip = flip_file("flip A 1 3 at 2\n");
+        let files = [SHIFT_FILE, data_file(SHIFT_DATA), flip];
+        let left = call(rt.alloc(), &files, "try shift.c d1 f1", failing)?;
+        assert_eq!(rt; left.status, Status::ReadFault, "{told}");
+        assert_eq!(rt; left.loads as u64, load, "{told}");
+        assert_eq!(rt; left.out.bytes.as_slice(), b"".as_slice(), "{told}");
+        assert_eq!(rt; left.err.bytes.as_slice(), told.as_bytes(), "{told}");
     }
     Ok(())
 }
@@ -626,24 +800,6 @@ fn refuses_data(rt: HostRuntime) -> Result<(), Fail> {
     Ok(())
 }
 
-#[test]
-fn stops_at_a_second_load_that_fails(rt: HostRuntime) -> Result<(), Fail> {
-    let failing = Failing { load: 2, ..NONE };
-    let left = call(
-        rt.alloc(),
-        &[SHIFT_FILE, data_file(SHIFT_DATA)],
-        "try shift.c d1",
-        failing,
-    )?;
-    assert_eq!(rt; left.status, Status::ReadFault);
-    assert_eq!(rt; left.out.bytes.as_slice(), b"".as_slice());
-    assert_eq!(rt;
-        left.err.bytes.as_slice(),
-        b"balance: cannot read d1\n".as_slice()
-    );
-    Ok(())
-}
-
 // The call ends with a write fault, and this many bytes of its output are there.
 fn stops_within(
     rt: &impl Abort,
@@ -716,6 +872,11 @@ fn refuses_many_names(rt: HostRuntime) -> Result<(), Fail> {
     );
     Ok(())
 }
+
+// Two cells that get the value of one.
+const BOTH: &str = "void twice(const uint64_t A[1], uint64_t B[2]) {\n  \
+for (int64_t i = 0; i < 2; i++) B[i] = A[0];\n\
+}\n";
 
 // A nest with two assignments.
 const MIX: &str = "#pragma balance range n 1 500\n\

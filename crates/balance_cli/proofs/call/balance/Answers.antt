@@ -31,9 +31,16 @@ returns-clause-complete g c = complete (record {
     alike = c.frames_say_the_same.ensures;
     read = c.same_frames_act_alike.ensures.read;
   };
+  flip_texts = record {
+    one_answer = c.one_flip_answer.ensures;
+    some_answer = c.some_flip_answer.ensures;
+    alike = c.frames_say_the_same.ensures;
+    as_frame = c.fits_as_frame.ensures;
+    as_meant = c.fits_as_meant.ensures;
+  };
   source_frames = c.accepted_units_have_frames.ensures.sources;
   printed_frames = c.accepted_units_have_frames.ensures.printed;
-  guards = c.accepted_sources_are_guarded.ensures;
+  faults = c.accepted_sources_tell_of_faults.ensures;
   accepted = c.accepted_sources_are_printed.ensures.printed;
   stores = c.accepted_sources_are_printed.ensures.stores;
   printed = c.instrumented_units_have_texts.ensures.accepted;
@@ -56,9 +63,16 @@ returns-clause-determined g c = determined_end (record {
     alike = c.frames_say_the_same.ensures;
     read = c.same_frames_act_alike.ensures.read;
   };
+  flip_texts = record {
+    one_answer = c.one_flip_answer.ensures;
+    some_answer = c.some_flip_answer.ensures;
+    alike = c.frames_say_the_same.ensures;
+    as_frame = c.fits_as_frame.ensures;
+    as_meant = c.fits_as_meant.ensures;
+  };
   source_frames = c.accepted_units_have_frames.ensures.sources;
   printed_frames = c.accepted_units_have_frames.ensures.printed;
-  guards = c.accepted_sources_are_guarded.ensures;
+  faults = c.accepted_sources_tell_of_faults.ensures;
   accepted = c.accepted_sources_are_printed.ensures.printed;
   stores = c.accepted_sources_are_printed.ensures.stores;
   printed = c.instrumented_units_have_texts.ensures.accepted;

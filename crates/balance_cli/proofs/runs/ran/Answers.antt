@@ -1,10 +1,13 @@
-use Rattle.std.proofs.Common.{None, sym, subst}
+use Rattle.std.proofs.Common.{option_map, sym, subst}
+use Rattle.std.specs.Prelude.{IfSome}
 use Rattle.acceptance.specs.Runnable.{IsRunnable}
 use Rattle.c_tree.specs.Plain.{PlainUnit}
 use Rattle.c_tree.specs.Run as runs
 use Rattle.c_tree.specs.declared.frame.Frame.{Frame}
 use Rattle.data_file.specs.Conditions.{IsEndOf}
+use Rattle.fault_plan.specs.Units.{fault_in}
 use Rattle.interp.specs.Finished.{inputs_in, IsEnded}
+use Rattle.interp.specs.Flips.{IsFaultFor}
 use Rattle.balance_cli.specs.Stages.{frame_of, unit_of}
 use Rattle.balance_cli.proofs.Shown.{built_runs, ends_of}
 use Rattle.balance_cli.proofs.runs.ran.Goals as goal
@@ -12,11 +15,17 @@ use Rattle.balance_cli.proofs.runs.ran.Goals as goal
 pub end_of-requires-clause-form : goal.end_of-requires-clause-form
 end_of-requires-clause-form c = subst IsRunnable (sym c.unit.ensures) (built_runs c.built_make_no_table.ensures (unit_of c.args.taken.now) c.requires.framed.built)
 
+pub end_of-requires-clause-flip_fits : goal.end_of-requires-clause-flip_fits
+end_of-requires-clause-flip_fits c =
+    subst (λ (u : PlainUnit). IfSome c.args.flip (λ f. IsFaultFor u (inputs_in c.args.inputs.now) (fault_in f.now))) (sym c.unit.ensures) c.requires.flip_fits
+
 pub shown-requires : goal.shown-requires
 shown-requires c =
     let u = unit_of c.args.taken.now in
     let i = inputs_in c.args.inputs.now in
+    let fault = option_map (λ f. fault_in f.now) c.args.flip in
     let e = c.in_ok-ended.ended in
-    let P : PlainUnit → Type 0 = λ v. IsEnded (runs.run v i None) e in
+    let P : PlainUnit → Type 0 = λ v. IsEnded (runs.run v i fault) e in
     let Q : Frame → Type 0 = λ f. IsEndOf f e in
-    subst Q (sym c.frame.ensures) (ends_of (frame_of c.args.taken.now) u i e (built_runs c.built_make_no_table.ensures u c.requires.framed.built) c.requires.framed.of (subst P c.unit.ensures c.in_ok-ended.ensures))
+    subst Q (sym c.frame.ensures)
+    (ends_of (frame_of c.args.taken.now) u i fault e (built_runs c.built_make_no_table.ensures u c.requires.framed.built) c.requires.framed.of (subst P c.unit.ensures c.in_ok-ended.ensures))

@@ -1,13 +1,18 @@
-use Rattle.std.proofs.Common.{ap, refl, sym, subst, ◌∙◌}
+use Rattle.std.proofs.Common.{option_map, ap, refl, sym, subst, ◌∙◌}
 use Rattle.c_tree.specs.Trees.{unit}
 use Rattle.c_tree.specs.declared.frame.Frame.{Frame}
 use Rattle.data_file.specs.Conditions.{IsEndOf}
 use Rattle.data_file.specs.Texts.{output_text}
+use Rattle.fault_plan.specs.Units.{fault_in}
 use Rattle.interp.specs.Finished.{inputs_in}
 use Rattle.balance_cli.specs.Runs.{finish_of}
 use Rattle.balance_cli.proofs.HeadsMade.{made_head, spelled_by}
-use Rattle.balance_cli.proofs.Shown.{ends_of, guarded_frame, weaker}
+use Rattle.balance_cli.proofs.Shown.{ends_of, fault_of_made, guarded_frame, weaker}
 use Rattle.balance_cli.proofs.runs.tried.Goals as goal
+
+pub end_of-requires-clause-flip_fits : goal.end_of-requires-clause-flip_fits
+end_of-requires-clause-flip_fits c =
+    fault_of_made (unit c.args.source.now.unit) (unit c.in_ok-guarded.guarded) (inputs_in c.args.inputs.now) c.args.flip c.in_ok-guarded.ensures.made c.requires.flip_fits
 
 pub shown-requires : goal.shown-requires
 shown-requires c =
@@ -16,7 +21,7 @@ shown-requires c =
     let e = c.in_ok-ended.ended in
     let Q : Frame → Type 0 = λ f. IsEndOf f e in
     subst Q (sym c.frame.ensures)
-    (ends_of source.frame made (inputs_in c.args.inputs.now) e c.in_ok-guarded.ensures.runs (guarded_frame (unit source.unit) made source.frame c.in_ok-guarded.ensures.made c.requires.framed.of) c.in_ok-ended.ensures)
+    (ends_of source.frame made (inputs_in c.args.inputs.now) (option_map (λ f. fault_in f.now) c.args.flip) e c.in_ok-guarded.ensures.runs (guarded_frame (unit source.unit) made source.frame c.in_ok-guarded.ensures.made c.requires.framed.of) c.in_ok-ended.ensures)
 
 pub returns : goal.returns
 returns c =
@@ -27,7 +32,7 @@ returns c =
       head = made_head _ _ c.in_ok-guarded.ensures.made;
       accepted = c.in_ok-guarded.ensures.accepted;
       stores = c.in_ok-guarded.ensures.stores;
-      guards = c.in_ok-guarded.ensures.guards;
+      faults = c.in_ok-guarded.ensures.faults;
       ended = c.in_ok-ended.ended;
       is = c.in_ok-ended.ensures;
       frame = c.args.source.now.frame;

@@ -11,6 +11,6 @@ returns c = record {
   head = made_head _ _ c.in_ok-guarded.ensures.made;
   accepted = c.in_ok-guarded.ensures.accepted;
   stores = c.in_ok-guarded.ensures.stores;
-  guards = c.in_ok-guarded.ensures.guards;
+  faults = c.in_ok-guarded.ensures.faults;
   done = refl;
 }

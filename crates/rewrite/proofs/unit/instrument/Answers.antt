@@ -4,7 +4,7 @@ use Rattle.acceptance.specs.Printed.{IsAcceptedPrinted, StoresNothingBefore}
 use Rattle.acceptance.specs.Runnable.{IsRunnable}
 use Rattle.acceptance.specs.Trees.{IsPrintedTree}
 use Rattle.instrumentation.specs.Guarded.{guarded}
-use Rattle.guard_laws.specs.Guards.{GuardsInDetail}
+use Rattle.flip_laws.specs.FaultyRuns.{TellsOfFaults}
 use Rattle.unit_builder.specs.Small.{IsSmall}
 use Rattle.rewrite.proofs.Made.{if_made, made_of}
 use Rattle.rewrite.proofs.unit.instrument.Goals as goal
@@ -27,5 +27,5 @@ returns-clause-stores c = if_made c.instrumented_unit.result (guarded (unit c.ar
 pub returns-clause-runs : goal.returns-clause-runs
 returns-clause-runs c = if_made c.instrumented_unit.result (guarded (unit c.args.k.now.unit)) IsRunnable (made_of c.instrumented_unit.result c.unit.result.now c.args.k.now.unit c.unit.ensures c.instrumented_unit.ensures) (c.accepted_sources_are_printed.ensures.runs _ c.requires.regular)
 
-pub returns-clause-guards : goal.returns-clause-guards
-returns-clause-guards c = if_made c.instrumented_unit.result (guarded (unit c.args.k.now.unit)) (GuardsInDetail (unit c.args.k.now.unit)) (made_of c.instrumented_unit.result c.unit.result.now c.args.k.now.unit c.unit.ensures c.instrumented_unit.ensures) (c.accepted_sources_are_guarded.ensures _ c.requires.regular)
+pub returns-clause-faults : goal.returns-clause-faults
+returns-clause-faults c = if_made c.instrumented_unit.result (guarded (unit c.args.k.now.unit)) (TellsOfFaults (unit c.args.k.now.unit)) (made_of c.instrumented_unit.result c.unit.result.now c.args.k.now.unit c.unit.ensures c.instrumented_unit.ensures) (c.accepted_sources_tell_of_faults.ensures _ c.requires.regular)

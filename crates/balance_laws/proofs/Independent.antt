@@ -10,8 +10,8 @@ use Rattle.c_tree.specs.Arrays.{Array, Memory, array_from, vars_of}
 use Rattle.c_tree.specs.Accesses.{Access, at}
 use Rattle.c_tree.specs.Inputs.{arrays_for}
 use Rattle.c_tree.specs.Instances.{Tagged, untagged, core_of, core, accesses}
-use Rattle.flip_laws.specs.Independence.{StandsInStmts, PlacesAreFixed, OwnValuesAreNothing, IndexArraysAreAll}
-use Rattle.flip_laws.proofs.Views.{View, view, tagged_view, AreSame, core_same, subscripts_same, word_same}
+use Rattle.balance_laws.specs.Independence.{StandsInStmts, PlacesAreFixed, OwnValuesAreNothing, IndexArraysAreAll}
+use Rattle.balance_laws.proofs.Views.{View, view, tagged_view, AreSame, core_same, subscripts_same, word_same}
 
 map_twice : {A B C : Type 0} (g : B → C) (f : A → B) (xs : List A) → map g (map f xs) ≡ map (λ x. g (f x)) xs
 map_twice g f [] = refl

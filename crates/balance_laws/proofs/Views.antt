@@ -8,7 +8,7 @@ use Rattle.c_tree.specs.Arrays.{Array, Memory, array_named, is_within}
 use Rattle.c_tree.specs.Accesses.{Access}
 use Rattle.c_tree.specs.Instances.{Instance, sites, sites_all, test_is_true, instances, instances_all, word_within, word_at, exact_all, subscripts, access_at, access_of, reads_of, reads_of_all, old_cell, accesses_of, Tagged, tagged_of, core_of}
 use Rattle.c_tree.specs.declared.expr.BinOp.{BinOp}
-use Rattle.flip_laws.specs.Independence.{StandsIn, StandsAmong, StandsInStmt, StandsInStmts, IsIndexedBy}
+use Rattle.balance_laws.specs.Independence.{StandsIn, StandsAmong, StandsInStmt, StandsInStmts, IsIndexedBy}
 
 -- ---- lists
 

@@ -1,5 +1,5 @@
-use Rattle.flip_laws.proofs.Independent.{places_are_fixed, own_values_are_nothing, index_arrays_are_all}
-use Rattle.flip_laws.proofs.control_is_independent.Goals as goal
+use Rattle.balance_laws.proofs.Independent.{places_are_fixed, own_values_are_nothing, index_arrays_are_all}
+use Rattle.balance_laws.proofs.control_independence.Goals as goal
 
 pub returns-clause-places : goal.returns-clause-places
 returns-clause-places c = places_are_fixed

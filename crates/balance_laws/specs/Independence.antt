@@ -1,12 +1,11 @@
 -- What the accesses of a source depend on, index arrays included. Its instances depend on parameters alone, since no memory stands in their definition.
-use Rattle.std.specs.Prelude.{◌≡◌, ◌≢◌, ◌⊎◌, ℕ, Bool, List, map, codes, ℤ, Some, None}
+use Rattle.std.specs.Prelude.{◌≡◌, ◌≢◌, ◌⊎◌, ℕ, Bool, List, map, ℤ, Some}
 use Rattle.c_tree.specs.Plain.{Word, PlainExpr, lit, var, cell, un, bin, cast, test, umin, umax, least, greatest, widen, big, PlainExprs, no_exprs, more_exprs, PlainStmt, loop, choice, assign, table, begin, check, verdict, PlainStmts, no_stmts, more_stmts, PlainUnit}
 use Rattle.c_tree.specs.Values.{Vars}
 use Rattle.c_tree.specs.Arrays.{Array, Memory, array_named, vars_of}
 use Rattle.c_tree.specs.Inputs.{arrays_for}
 use Rattle.c_tree.specs.Instances.{Tagged, core_of, accesses}
 use Rattle.balance_laws.specs.Laws.{SameFor}
-use Rattle.acceptance.specs.Sources.{IsAcceptedSource}
 
 -- ---- cells and their subscripts
 
@@ -81,13 +80,3 @@ abbrev pub IndexArraysAreAll : Type 0
 IndexArraysAreAll = (u : PlainUnit) (ns : List ℤ) (m n : Memory) →
     ((y : Word) (a : ℕ × Array) (c : List ℤ) → IsIndexArray u.body y → array_named (arrays_for u ns) y ≡ Some a → m a.0 c ≡ n a.0 c) →
     accesses u ns m ≡ accesses u ns n
-
--- Every accepted source is so, whatever subscripts it has.
-abbrev pub AcceptedAreApart : Type 0
-AcceptedAreApart = (u : PlainUnit) → IsAcceptedSource u → AreApart u.body
-
--- an array that is its own index array: A[i] = A[A[i]]
-abbrev pub own_index : PlainStmts
-own_index =
-    let at = λ (e : PlainExpr). cell (codes "A") (more_exprs e no_exprs) in
-    more_stmts (assign (at (var (codes "i"))) None (at (at (var (codes "i"))))) no_stmts
