@@ -10,7 +10,7 @@ help:
 	@echo 'make build    prove and build the program: $(PROGRAM)'
 	@echo 'make install  copy that to $(PREFIX)/bin/balance (PREFIX=.., DESTDIR=..)'
 	@echo 'make test     run the gate, as CI does'
-	@echo 'make bench    time runs beside a tree walk in C and gcc, the reading of texts, printing and checks, and weigh runs'
+	@echo 'make bench    time runs beside a tree walk in C and gcc, irregular reads, the reading of texts, printing and checks, and weigh runs'
 
 # The program lies outside of crates/, whose folders out/ the gate removes.
 $(PROGRAM): $(SOURCES)
@@ -30,6 +30,7 @@ test:
 
 bench: $(PROGRAM)
 	@benches/run.sh
+	@benches/irregular.sh
 	@benches/parse.sh $(PROGRAM)
 	@benches/print.sh $(PROGRAM)
 	@benches/check.sh $(PROGRAM)

@@ -2,11 +2,13 @@
 
     tree.py TEXT > TREE
 
-Takes the grammar of docs/LANGUAGE.md and docs/FORMATS.md, but no tables, no checks, and signed subscripts alone.
+Reads the grammar of docs/LANGUAGE.md and docs/FORMATS.md. A tree is written of texts without tables and checks, with
+signed subscripts alone.
 
 An expression is a tuple: ("number", n), ("name", x), ("cell", x, subscripts), ("cast", e), ("wide", e), or an operator,
 a relation or a function with its operands. A statement is ("for", x, first, relation, last, body), ("if", tests, then,
-other), ("assign", target, operator or "", e), ("begin",) or ("verdict", pairs of names).
+other), ("assign", target, operator or "", e), ("table", x, length), ("check", e, extent, what it returns), ("begin",) or
+("verdict", pairs of names).
 """
 import re
 import sys
@@ -170,6 +172,8 @@ class Reader:
             return [self.loop()]
         if token == "if":
             return [self.choice()]
+        if token == "uint64_t":
+            return [self.table()]
         if token == "return":
             return [self.verdict()]
         target = self.place(token)
@@ -203,10 +207,27 @@ class Reader:
         self.take(")")
         return ("for", name, first, relation, last, self.statement())
 
+    def table(self):
+        self.take("*")
+        name = self.take()
+        for token in ("=", "calloc", "("):
+            self.take(token)
+        length = self.expr()
+        for token in (*", sizeof ( uint64_t ) ) ; if (".split(), name, *"== 0 ) { return".split()):
+            self.take(token)
+        self.take()
+        self.take(";")
+        self.take("}")
+        return ("table", name, length)
+
     def choice(self):
         self.take("(")
         tests = self.tests()
         self.take(")")
+        if self.next() == "{" and self.next(1) == "return":
+            number = int(self.tokens[self.at + 2].rstrip("uUlL"), 0)
+            self.at += 5
+            return ("check", tests[0][1], tests[0][2], number)
         then = self.statement()
         return ("if", tests, then, self.statement() if self.skips("else") else [])
 
@@ -236,7 +257,7 @@ class Reader:
             self.skips(",")
         self.take("{")
         words, wides = [], []
-        while self.next() in ("uint64_t", "unsigned"):
+        while self.next() in ("uint64_t", "unsigned") and self.next(1) != "*":
             is_wide = self.take() == "unsigned" and self.take("__int128")
             declared = self.take()
             self.take("=")

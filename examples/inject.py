@@ -66,6 +66,20 @@ def hooked(text, unit):
     return "\n".join(lines) + "\n"
 
 
+def index_arrays(text, unit):
+    """The numbers of the arrays whose cells are subscripts: a word that was loaded from one stands in brackets."""
+    numbers = {name: a for a, (name, _, _) in enumerate(unit.arrays)}
+    names = "|".join(map(re.escape, numbers))
+    access = re.compile(rf"(?:(bal_r\d+) = )?\b({names})((?:\[[^][]*\])+)")
+    loaded, found = {}, set()
+    for line in text.partition(BEGIN)[2].splitlines():
+        for word, name, subscripts in access.findall(line):
+            found |= {loaded[r] for r in re.findall(r"bal_r\d+", subscripts) if r in loaded}
+            if word:
+                loaded[word] = numbers[name]
+    return found
+
+
 def header(text, unit):
     """What examples/inject.c has to know of the text."""
     prototype = re.search(r"^(uint64_t bal_fn_.*) {$", text, re.M)[1] + ";"
@@ -161,8 +175,8 @@ def all_flips(case):
 class Case:
     """A printed text, the values that it runs on, and its run without a flip."""
 
-    def __init__(self, unit, data):
-        self.unit, self.data = unit, data
+    def __init__(self, unit, data, index_arrays):
+        self.unit, self.data, self.index_arrays = unit, data, index_arrays
         self.plain, self.accesses, self.counts, self.of_cell = [], [], [], defaultdict(list)
 
     def ran(self, plain, written):
@@ -192,9 +206,13 @@ class Case:
         return lines
 
     def promised(self, flip, output):
-        if self.next_access(flip)[0] == "read":
-            return output[-1] == f"fault {self.unit.arrays[flip.array][0]}"
-        return output == self.left(flip)
+        if self.next_access(flip)[0] != "read":
+            return output == self.left(flip)
+        verdict, *names = output[-1].split()
+        name = self.unit.arrays[flip.array][0]
+        if flip.array in self.index_arrays:
+            return verdict == "index" or (verdict == "fault" and name in names)
+        return output[-1] == f"fault {name}"
 
 
 # ---- the program beside the builds
@@ -366,7 +384,7 @@ def main():
         builds = [Build(work, compiler, level) for compiler in COMPILERS if found(compiler) for level in LEVELS]
         if not builds:
             stop(f"none of {', '.join(COMPILERS)} is installed")
-        case = Case(unit, words.data)
+        case = Case(unit, words.data, index_arrays(text, unit))
         first_run(case, builds, program)
         wrong = 0
         for title, flips in chosen(words, case):

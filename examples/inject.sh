@@ -13,7 +13,8 @@
 #
 # It ends with 1 where any build does otherwise than is promised of the text:
 # - the first run is balanced;
-# - where the next access of the cell is a read, the fault is reported in this array alone;
+# - where the next access of the cell is a read, the fault is reported in this array alone; or, in an index array, in this
+#   array among others, or at a check of an index;
 # - else the text is balanced and leaves what it leaves without the flip, but for the bit itself where no access follows.
 # Where the program takes the word FLIP, what it writes and its status are compared with the text's, too: under at most 200
 # of the flips, chosen at random. Without a flip they always are.

@@ -1,5 +1,5 @@
--- Which units the interpreter runs.
-use Rattle.std.specs.Prelude.{◌≡◌, ◌⊎◌, Bool, true, false, ◌&&◌}
+-- Which units the interpreter runs, and which of them make no table.
+use Rattle.std.specs.Prelude.{◌⊎◌, Bool, true, false, ◌&&◌}
 use Rattle.c_tree.specs.Plain.{PlainStmt, loop, choice, assign, table, begin, check, verdict, PlainStmts, no_stmts, more_stmts, PlainUnit}
 use Rattle.acceptance.specs.Printed.{IsAcceptedPrinted}
 use Rattle.acceptance.specs.Sources.{IsAcceptedSource}
@@ -19,6 +19,6 @@ abbrev mutual
   all_make_no_table no_stmts = true
   all_make_no_table (more_stmts s ss) = makes_no_table s && all_make_no_table ss
 
--- an accepted source, or an accepted printed unit without tables
+-- an accepted source, or an accepted printed unit
 abbrev pub IsRunnable : PlainUnit → Type 0
-IsRunnable u = IsAcceptedSource u ⊎ (IsAcceptedPrinted u × (all_make_no_table u.body ≡ true))
+IsRunnable u = IsAcceptedSource u ⊎ IsAcceptedPrinted u

@@ -1,5 +1,5 @@
 -- Expressions of a text, by the names in scope: signed ones, words and wide ones. No condition refuses them where they stand.
-use Rattle.std.proofs.Common.{◌≡◌, ◌⊎◌, ℕ, Bool, true, false, ◌||◌, List, [], ◌∷◌, length, refl, sym, ap, nat_eq, inl, inr, true≢false, eq-eqb}
+use Rattle.std.proofs.Common.{◌≡◌, ◌⊎◌, ℕ, Bool, true, false, ◌&&◌, ◌||◌, if◌then◌else◌, List, [], ◌∷◌, length, refl, sym, ap, nat_eq, inl, inr, true≢false, eq-eqb}
 use Rattle.std.specs.Prelude.{bytes_eq}
 use Rattle.std.proofs.lemmas.Bool.{and_from, or_left, or_right, cases_Bool}
 use Rattle.c_tree.specs.Plain.{Word, PlainExpr, lit, var, cell, un, bin, cast, test, umin, umax, least, greatest, widen, big, PlainExprs, no_exprs, more_exprs, PlainParam, int_param, array_param}
@@ -8,9 +8,11 @@ use Rattle.c_tree.specs.Kinds.{Kind, either, signed_kind, word_kind, join, is_si
 use Rattle.c_tree.specs.declared.expr.UnOp.{UnOp}
 use Rattle.c_tree.specs.declared.expr.BinOp.{BinOp}
 use Rattle.c_tree.specs.declared.expr.BinOp.TheVariants.{Add, Sub, Mul}
+use Rattle.instrumentation.specs.Subscripts.{is_cell}
+use Rattle.instrumentation.specs.Tables.{one}
 use Rattle.acceptance.specs.Items.{Scope, is_loop, is_int, is_array, is_param, is_scalar, is_declared, is_known, is_signed_name}
 use Rattle.acceptance.specs.Head.{list_of, uses_known, all_use_known}
-use Rattle.acceptance.specs.Printed.{dimensions, fits_dimensions, all_fit_dimensions, has_good_side, literals_fit, all_literals_fit, is_signed_un, is_signed_op, is_signed_expr, kind_of, is_word_expr, are_subscripts, is_wide_expr}
+use Rattle.acceptance.specs.Printed.{dimensions, fits_dimensions, all_fit_dimensions, has_good_side, literals_fit, all_literals_fit, is_signed_un, is_signed_op, is_signed_expr, reads_no_array, kind_of, is_word_expr, are_subscripts, is_wide_expr}
 
 -- ---- names
 
@@ -156,7 +158,72 @@ pub record IsCellAt (sc : Scope) (x : Word) (at : PlainExprs) : Type 0 where
   pub rank : dimensions sc x ≡ length (list_of at)
   pub subscripts : AreIndices sc at
 
--- the value of an assignment to a word or a cell, whose cells have signed subscripts
+-- a subscript of a read of a source: signed, or an index cell
+abbrev pub IsSubscript : Scope → PlainExpr → Type 0
+IsSubscript sc (cell x at) = IsCellAt sc x at
+IsSubscript sc e = IsIndex sc false e
+
+abbrev pub AreReadable : Scope → PlainExprs → Type 0
+AreReadable sc no_exprs = Unit {0}
+AreReadable sc (more_exprs e es) = IsSubscript sc e × AreReadable sc es
+
+pub record IsReadAt (sc : Scope) (x : Word) (at : PlainExprs) : Type 0 where
+  pub array : is_array sc.params x ≡ true
+  pub rank : dimensions sc x ≡ length (list_of at)
+  pub subscripts : AreReadable sc at
+
+-- the value of an assignment of a source: its cells may have index cells for subscripts
+abbrev pub IsValue : Scope → PlainExpr → Type 0
+IsValue sc (lit n) = Unit {0}
+IsValue sc (var x) = IsWordAt sc x
+IsValue sc (cell x at) = IsReadAt sc x at
+IsValue sc (un op a) = IsValue sc a
+IsValue sc (bin op a b) = (has_good_side op b ≡ true) × IsValue sc a × IsValue sc b
+IsValue sc (cast a) = IsValue sc a ⊎ IsIndex sc false a
+IsValue sc (test rel a b) = IsValue sc a × IsValue sc b
+IsValue sc (umin a b) = IsValue sc a × IsValue sc b
+IsValue sc (umax a b) = IsValue sc a × IsValue sc b
+IsValue sc (least a b) = ⊥
+IsValue sc (greatest a b) = ⊥
+IsValue sc (widen a) = ⊥
+IsValue sc (big high low) = ⊥
+
+pub index_subscript : (sc : Scope) (e : PlainExpr) → IsIndex sc false e → IsSubscript sc e
+index_subscript sc (cell x at) h = absurd h
+index_subscript sc (lit n) h = h
+index_subscript sc (var x) h = h
+index_subscript sc (un op a) h = h
+index_subscript sc (bin op a b) h = h
+index_subscript sc (cast a) h = h
+index_subscript sc (test rel a b) h = h
+index_subscript sc (umin a b) h = h
+index_subscript sc (umax a b) h = h
+index_subscript sc (least a b) h = h
+index_subscript sc (greatest a b) h = h
+index_subscript sc (widen a) h = h
+index_subscript sc (big high low) h = h
+
+-- one that is no cell is signed
+pub subscript_index : (sc : Scope) (e : PlainExpr) → is_cell e ≡ false → IsSubscript sc e → IsIndex sc false e
+subscript_index sc (cell x at) n h = absurd (true≢false n)
+subscript_index sc (lit k) n h = h
+subscript_index sc (var x) n h = h
+subscript_index sc (un op a) n h = h
+subscript_index sc (bin op a b) n h = h
+subscript_index sc (cast a) n h = h
+subscript_index sc (test rel a b) n h = h
+subscript_index sc (umin a b) n h = h
+subscript_index sc (umax a b) n h = h
+subscript_index sc (least a b) n h = h
+subscript_index sc (greatest a b) n h = h
+subscript_index sc (widen a) n h = h
+subscript_index sc (big high low) n h = h
+
+pub indices_readable : (sc : Scope) (es : PlainExprs) → AreIndices sc es → AreReadable sc es
+indices_readable sc no_exprs h = tt
+indices_readable sc (more_exprs e es) h = (index_subscript sc e h.0, indices_readable sc es h.1)
+
+-- the value of an assignment of a text to a word or a cell, whose cells have signed subscripts
 abbrev pub IsData : Scope → PlainExpr → Type 0
 IsData sc (lit n) = Unit {0}
 IsData sc (var x) = IsWordAt sc x
@@ -276,3 +343,82 @@ pub product_wide : (sc : Scope) (x k : Word) → IsWordAt sc x → IsWideAt sc k
 product_wide sc x k h w =
     let a : IsWide sc (widen (var x)) = widen_wide sc x h in
     record { good = good_bin sc Mul (widen (var x)) (var k) refl a.good (good_var sc k (wide_known sc k w.declared) w.flat); wide = and_from _ _ a.wide w.declared }
+
+-- ---- word expressions of a text, entries of tables among them
+
+pub record IsWords (sc : Scope) (e : PlainExpr) : Type 0 where
+  pub good : IsGood sc e
+  pub word : is_word_expr sc e ≡ true
+  pub unsigned : is_signed (kind_of sc e) ≡ false
+
+pub words_of : (sc : Scope) (e : PlainExpr) → IsData sc e → IsWords sc e
+words_of sc e h = record { good = data_good sc e h; word = data_word sc e h; unsigned = data_no_signed sc e h }
+
+pub words_bin : (sc : Scope) (op : BinOp) (a b : PlainExpr) → has_good_side op b ≡ true → IsWords sc a → IsWords sc b → IsWords sc (bin op a b)
+words_bin sc op a b s g k = record {
+  good = good_bin sc op a b s g.good k.good;
+  word = and_from _ _ g.word k.word;
+  unsigned = join_no_signed (kind_of sc a) (kind_of sc b) g.unsigned k.unsigned;
+}
+
+-- the name of a table
+pub record IsTableAt (sc : Scope) (x : Word) : Type 0 where
+  pub made : is_among sc.tables x ≡ true
+  pub no_array : is_array sc.params x ≡ false
+
+pub table_known : (sc : Scope) (x : Word) → is_among sc.tables x ≡ true → is_known sc x ≡ true
+table_known sc x h = or_right (is_loop sc.loops x) _ (or_right (is_param sc.params x) _ (or_right (is_scalar sc.words x) _ (or_right (is_among sc.wides x) _ h)))
+
+pub entry_words : (sc : Scope) (x : Word) (e : PlainExpr) → IsTableAt sc x → IsWords sc e → IsWords sc (cell x (one e))
+entry_words sc x e t h = record {
+  good = record {
+    known = and_from _ _ (table_known sc x t.made) (and_from _ _ h.good.known refl);
+    fits = and_from _ _ (rw t.made refl) (and_from _ _ h.good.fits refl);
+    literals = and_from _ _ h.good.literals refl;
+  };
+  word = rw t.no_array (and_from _ _ t.made h.word);
+  unsigned = refl;
+}
+
+pub words_wide : (sc : Scope) (e : PlainExpr) → IsWords sc e → IsWide sc (widen e)
+words_wide sc e h = record { good = record { known = h.good.known; fits = h.good.fits; literals = h.good.literals }; wide = rw h.unsigned h.word }
+
+-- ---- the subscripts of a load: signed, or words without cells
+
+pub record IsPlaced (sc : Scope) (e : PlainExpr) : Type 0 where
+  pub good : IsGood sc e
+  pub kinds : (if is_word (kind_of sc e) then is_word_expr sc e && reads_no_array sc e else is_signed_expr sc false e) ≡ true
+
+abbrev pub ArePlaced : Scope → PlainExprs → Type 0
+ArePlaced sc no_exprs = Unit {0}
+ArePlaced sc (more_exprs e es) = IsPlaced sc e × ArePlaced sc es
+
+pub index_placed : (sc : Scope) (e : PlainExpr) → IsIndex sc false e → IsPlaced sc e
+index_placed sc e h = record { good = index_good sc false e h; kinds = rw (index_no_word sc false e h) (index_signed sc false e h) }
+
+pub word_placed : (sc : Scope) (x : Word) → IsWordAt sc x → IsPlaced sc (var x)
+word_placed sc x h = record { good = good_var sc x (word_known sc x h.declared) h.flat; kinds = rw h.unsigned (and_from _ _ h.declared refl) }
+
+placed_good : (sc : Scope) (es : PlainExprs) → ArePlaced sc es → AreGood sc es
+placed_good sc no_exprs h = record { known = refl; fits = refl; literals = refl }
+placed_good sc (more_exprs e es) h =
+    let g : IsGood sc e = h.0.good in
+    let k : AreGood sc es = placed_good sc es h.1 in
+    record { known = and_from _ _ g.known k.known; fits = and_from _ _ g.fits k.fits; literals = and_from _ _ g.literals k.literals }
+
+placed_are_subscripts : (sc : Scope) (es : PlainExprs) → ArePlaced sc es → are_subscripts sc es ≡ true
+placed_are_subscripts sc no_exprs h = refl
+placed_are_subscripts sc (more_exprs e es) h = and_from _ _ h.0.kinds (placed_are_subscripts sc es h.1)
+
+pub placed_words : (sc : Scope) (x : Word) (at : PlainExprs) → is_array sc.params x ≡ true → dimensions sc x ≡ length (list_of at) → ArePlaced sc at → IsWords sc (cell x at)
+placed_words sc x at a r h =
+    let g : AreGood sc at = placed_good sc at h in
+    record {
+      good = record {
+        known = and_from _ _ (param_known sc x (array_param_of sc.params x a)) g.known;
+        fits = and_from _ _ (eq-eqb (dimensions sc x) (length (list_of at)) r) g.fits;
+        literals = g.literals;
+      };
+      word = rw a (placed_are_subscripts sc at h);
+      unsigned = refl;
+    }

@@ -6,7 +6,6 @@ use Rattle.std.proofs.lemmas.List.Folds.{list_all-append}
 use Rattle.c_tree.specs.Plain.{Word, PlainStmt, loop, choice, assign, table, begin, check, verdict, PlainStmts, no_stmts, more_stmts, PlainUnit}
 use Rattle.c_tree.specs.Trees.{stmts_of}
 use Rattle.acceptance.specs.Items.{Loop, Item, items, items_all, tables_after, Condition, holds_nowhere, first_where, least_item, lowest, Scope, scope_of}
-use Rattle.acceptance.specs.Runnable.{makes_no_table, all_make_no_table}
 use Rattle.acceptance.specs.Head.{extents_known, head_names_twice, bad_range, extent_not_affine, extent_terms_too_large, extent_too_wide, extent_not_positive}
 use Rattle.acceptance.specs.Printed.{item_name_twice, item_uses_known, fits_dimensions, dimensions, exprs_fit, names_fit, literals_fit, has_kinds, extents_signed, name_twice, name_unknown, at_head, wrong_dimensions, bad_literal, wrong_kind, printed_conditions, printed_refusal}
 
@@ -72,20 +71,48 @@ module _ (p : Item → Bool) (f : Word) (sc : Scope) (each : (s : PlainStmt) (ls
         list_all-append p (items s ls sc.tables) (items_all ss ls (tables_after s sc.tables))
         ∙ and_from _ _ (each_item s ls h.0) (subst (λ ts. list_all p (items_all ss ls ts) ≡ true) (sym (tables_same f sc s ls h.0 sc.tables)) (all_items ss ls h.1))
 
--- such statements make no table
-mutual
-  pub no_table : (f : Word) (sc : Scope) (s : PlainStmt) (ls : List Loop) → StmtFine f sc s ls → makes_no_table s ≡ true
-  no_table f sc (loop x lo rel hi body) ls h = no_tables f sc body (record { name = x; lo = lo; rel = rel; hi = hi } ∷ ls) h.1
-  no_table f sc (choice ts first other) ls h = and_from _ _ (no_tables f sc first ls h.1) (no_tables f sc other ls h.2)
-  no_table f sc (assign target op e) ls h = refl
-  no_table f sc (table x len) ls h = absurd h
-  no_table f sc begin ls h = refl
-  no_table f sc (check x extent a) ls h = refl
-  no_table f sc verdict ls h = refl
+-- ---- a text at the top level, where tables may be made
 
-  pub no_tables : (f : Word) (sc : Scope) (ss : PlainStmts) (ls : List Loop) → AllFine f sc ss ls → all_make_no_table ss ≡ true
-  no_tables f sc no_stmts ls h = refl
-  no_tables f sc (more_stmts s ss) ls h = and_from _ _ (no_table f sc s ls h.0) (no_tables f sc ss ls h.1)
+abbrev pub with_tables : Scope → List Word → Scope
+with_tables sc ts = record sc { tables = ts }
+
+abbrev pub OneFine : Word → Scope → PlainStmt → Type 0
+OneFine f sc (table x len) = IsFine f (inside sc []) (table x len)
+OneFine f sc s = StmtFine f sc s []
+
+-- each statement where the tables before it are in scope
+abbrev pub TopFine : Word → Scope → List Word → List PlainStmt → Type 0
+TopFine f sc ts [] = Unit {0}
+TopFine f sc ts (s ∷ ss) = OneFine f (with_tables sc ts) s × TopFine f sc (tables_after s ts) ss
+
+one_fine : (f : Word) (sc : Scope) (s : PlainStmt) → StmtFine f sc s [] → OneFine f sc s
+one_fine f sc (table x len) h = absurd h
+one_fine f sc (loop x lo rel hi body) h = h
+one_fine f sc (choice ts first other) h = h
+one_fine f sc (assign t op e) h = h
+one_fine f sc begin h = h
+one_fine f sc (check x e a) h = h
+one_fine f sc verdict h = h
+
+pub top_text : (f : Word) (sc : Scope) (ts : List Word) (a b : List PlainStmt) → TextFine f (with_tables sc ts) a [] → TopFine f sc ts b → TopFine f sc ts (a ++ b)
+top_text f sc ts [] b h g = g
+top_text f sc ts (s ∷ a) b h g =
+    (one_fine f (with_tables sc ts) s h.0, subst (λ us. TopFine f sc us (a ++ b)) (sym (tables_same f (with_tables sc ts) s [] h.0 ts)) (top_text f sc ts a b h.1 g))
+
+module _ (p : Item → Bool) (f : Word) (sc : Scope) (each : (ts : List Word) (s : PlainStmt) (ls : List Loop) → IsFine f (inside (with_tables sc ts) ls) s → p (record { stmt = s; loops = ls; tables = ts }) ≡ true) where
+  top_item : (ts : List Word) (s : PlainStmt) → OneFine f (with_tables sc ts) s → list_all p (items s [] ts) ≡ true
+  top_item ts (table x len) h = and_from _ _ (each ts (table x len) [] h) refl
+  top_item ts (loop x lo rel hi body) h = each_item p f (with_tables sc ts) (each ts) (loop x lo rel hi body) [] h
+  top_item ts (choice us first other) h = each_item p f (with_tables sc ts) (each ts) (choice us first other) [] h
+  top_item ts (assign t op e) h = each_item p f (with_tables sc ts) (each ts) (assign t op e) [] h
+  top_item ts begin h = refl
+  top_item ts (check x e a) h = each_item p f (with_tables sc ts) (each ts) (check x e a) [] h
+  top_item ts verdict h = each_item p f (with_tables sc ts) (each ts) verdict [] h
+
+  pub top_items : (ts : List Word) (ss : List PlainStmt) → TopFine f sc ts ss → list_all p (items_all (stmts_of ss) [] ts) ≡ true
+  top_items ts [] h = refl
+  top_items ts (s ∷ ss) h =
+      list_all-append p (items s [] ts) (items_all (stmts_of ss) [] (tables_after s ts)) ∙ and_from _ _ (top_item ts s h.0) (top_items (tables_after s ts) ss h.1)
 
 -- ---- units
 
@@ -132,18 +159,20 @@ lowest_none u (c ∷ cs) h =
     let g : (holds_nowhere u c.1 ≡ true) × (list_all (λ (d : ℕ × Condition). holds_nowhere u d.1) cs ≡ true) = and_parts _ _ h in
     rw (least_none u c.1 g.0) (lowest_none u cs g.1)
 
-pub unrefused_by : (u : PlainUnit) → HeadFine u → AllFine u.name (scope_of u [] []) u.body [] → printed_refusal u ≡ None
-unrefused_by u head body =
+pub unrefused_by : (u : PlainUnit) (text : List PlainStmt) → stmts_of text ≡ u.body → HeadFine u → TopFine u.name (scope_of u [] []) [] text → printed_refusal u ≡ None
+unrefused_by u text same head fine =
     let sc : Scope = scope_of u [] [] in
     let f : Word = u.name in
+    let all : (p : Item → Bool) → ((ts : List Word) (s : PlainStmt) (ls : List Loop) → IsFine f (inside (with_tables sc ts) ls) s → p (record { stmt = s; loops = ls; tables = ts }) ≡ true) → list_all p (items_all u.body [] []) ≡ true =
+    λ p each. subst (λ b. list_all p (items_all b [] []) ≡ true) same (top_items p f sc each [] text fine) in
     lowest_none u (printed_conditions u)
-    (and_from _ _ (nowhere u (name_twice u) head.once (all_items _ f sc (λ s ls h. ap not h.once) u.body [] body))
-    (and_from _ _ (nowhere u (name_unknown u) (ap not head.known) (all_items _ f sc (λ s ls h. not_not _ h.known) u.body [] body))
+    (and_from _ _ (nowhere u (name_twice u) head.once (all _ (λ ts s ls h. ap not h.once)))
+    (and_from _ _ (nowhere u (name_unknown u) (ap not head.known) (all _ (λ ts s ls h. not_not _ h.known)))
     (and_from _ _ (nowhere u (bad_range u) head.ranges (all_true (items_all u.body [] [])))
     (and_from _ _ (not_at_head u (extent_not_affine u) head.affine)
     (and_from _ _ (not_at_head u (extent_terms_too_large u) head.small)
     (and_from _ _ (not_at_head u (extent_too_wide u) head.narrow)
     (and_from _ _ (not_at_head u (extent_not_positive u) head.positive)
-    (and_from _ _ (nowhere u (wrong_dimensions u) refl (all_items _ f sc (λ s ls h. not_not _ (and_from _ _ h.fits h.flat)) u.body [] body))
-    (and_from _ _ (nowhere u (bad_literal u) refl (all_items _ f sc (λ s ls h. not_not _ h.literals) u.body [] body))
-    (and_from _ _ (nowhere u (wrong_kind u) (ap not head.signed) (all_items _ f sc (λ s ls h. not_not _ h.kinds) u.body [] body)) refl))))))))))
+    (and_from _ _ (nowhere u (wrong_dimensions u) refl (all _ (λ ts s ls h. not_not _ (and_from _ _ h.fits h.flat))))
+    (and_from _ _ (nowhere u (bad_literal u) refl (all _ (λ ts s ls h. not_not _ h.literals)))
+    (and_from _ _ (nowhere u (wrong_kind u) (ap not head.signed) (all _ (λ ts s ls h. not_not _ h.kinds))) refl))))))))))

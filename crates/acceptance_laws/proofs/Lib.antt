@@ -1,6 +1,7 @@
 pub mod Before
 pub mod Declared
 pub mod Expressions
+pub mod IndexCells
 pub mod Fine
 pub mod Loads
 pub mod Names
@@ -10,7 +11,9 @@ pub mod Prologues
 pub mod Renamed
 pub mod Sources
 pub mod Statements
+pub mod TableNames
 pub mod TextWords
 pub mod Texts
 pub mod Totals
 pub mod Units
+pub mod Walks

@@ -6,7 +6,7 @@ use Rattle.std.proofs.lemmas.Bool.{false_from_ne_true}
 use Rattle.std.proofs.lemmas.Slice.Eq.{bytes_eq-Decides}
 use Rattle.std.proofs.lemmas.Fmt.{decimal_injective}
 use Rattle.c_tree.specs.Plain.{Word}
-use Rattle.instrumentation.specs.Names.{numbered, register, result, count, definition_total, use_total, coordinate, pass_variable, active, counter}
+use Rattle.instrumentation.specs.Names.{numbered, register, result, count, definition_total, use_total, coordinate, pass_variable, active, counter, written, index_word, current, counts}
 
 abbrev pub begins : Word → Word → Bool
 begins prefix x = starts_with nat_eq x prefix
@@ -60,6 +60,22 @@ use_apart i j = numbered_apart (codes "bal_use") i j
 pub definition_apart : (i j : ℕ) → i < 2 ^ 64 → j < 2 ^ 64 → i ≢ j → bytes_eq (definition_total i) (definition_total j) ≡ false
 unfolding definition_total
 definition_apart i j = numbered_apart (codes "bal_def") i j
+
+pub index_apart : (i j : ℕ) → i < 2 ^ 64 → j < 2 ^ 64 → i ≢ j → bytes_eq (index_word i) (index_word j) ≡ false
+unfolding index_word
+index_apart i j = numbered_apart (codes "bal_cx") i j
+
+pub written_apart : (i j : ℕ) → i < 2 ^ 64 → j < 2 ^ 64 → i ≢ j → bytes_eq (written i) (written j) ≡ false
+unfolding written
+written_apart i j = numbered_apart (codes "bal_cw") i j
+
+pub current_apart : (i j : ℕ) → i < 2 ^ 64 → j < 2 ^ 64 → i ≢ j → bytes_eq (current i) (current j) ≡ false
+unfolding current
+current_apart i j = numbered_apart (codes "bal_td") i j
+
+pub counts_apart : (i j : ℕ) → i < 2 ^ 64 → j < 2 ^ 64 → i ≢ j → bytes_eq (counts i) (counts j) ≡ false
+unfolding counts
+counts_apart i j = numbered_apart (codes "bal_tu") i j
 
 -- ---- the names of a text, by the letters behind `bal_`
 
@@ -118,3 +134,65 @@ definition_count a = refl
 pub use_count : (a : ℕ) → bytes_eq (use_total a) count ≡ false
 unfolding use_total count
 use_count a = refl
+
+-- ---- the names of tables, and of the words that they need
+
+pub index_not_own : (d : ℕ) → own (index_word d) ≡ false
+unfolding index_word
+index_not_own d = refl
+
+pub written_not_own : (a : ℕ) → own (written a) ≡ false
+unfolding written
+written_not_own a = refl
+
+pub current_not_own : (a : ℕ) → own (current a) ≡ false
+unfolding current
+current_not_own a = refl
+
+pub counts_not_own : (a : ℕ) → own (counts a) ≡ false
+unfolding counts
+counts_not_own a = refl
+
+-- a name that begins as those of tables do
+abbrev pub like_table : Word → Bool
+like_table x = begins (codes "bal_t") x
+
+pub current_like : (a : ℕ) → like_table (current a) ≡ true
+unfolding current
+current_like a = refl
+
+pub counts_like : (a : ℕ) → like_table (counts a) ≡ true
+unfolding counts
+counts_like a = refl
+
+pub current_counts : (a b : ℕ) → bytes_eq (current a) (counts b) ≡ false
+unfolding current counts
+current_counts a b = refl
+
+pub counts_current : (a b : ℕ) → bytes_eq (counts a) (current b) ≡ false
+unfolding current counts
+counts_current a b = refl
+
+pub index_written : (d a : ℕ) → bytes_eq (index_word d) (written a) ≡ false
+unfolding index_word written
+index_written d a = refl
+
+pub written_index : (a d : ℕ) → bytes_eq (written a) (index_word d) ≡ false
+unfolding index_word written
+written_index a d = refl
+
+pub index_register : (d j : ℕ) → bytes_eq (index_word d) (register j) ≡ false
+unfolding index_word register
+index_register d j = refl
+
+pub written_register : (a j : ℕ) → bytes_eq (written a) (register j) ≡ false
+unfolding written register
+written_register a j = refl
+
+pub register_index : (j d : ℕ) → bytes_eq (register j) (index_word d) ≡ false
+unfolding index_word register
+register_index j d = refl
+
+pub register_written : (j a : ℕ) → bytes_eq (register j) (written a) ≡ false
+unfolding written register
+register_written j a = refl

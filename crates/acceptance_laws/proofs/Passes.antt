@@ -1,20 +1,28 @@
 -- Counting passes: what they copy of a source is fine wherever the cell that they count is one.
-use Rattle.std.proofs.Common.{◌≡◌, ℕ, ◌+◌, ◌≤◌, Bool, true, false, if◌then◌else◌, nat_eq, List, [], ◌∷◌, length, refl, arith, inl, inr, Option, None, Some}
-use Rattle.std.proofs.lemmas.Bool.{or_from}
+use Rattle.std.proofs.Common.{◌≡◌, ℕ, ◌+◌, ◌≤◌, Bool, true, false, if◌then◌else◌, nat_eq, List, [], ◌∷◌, length, ◌++◌, refl, sym, subst, arith, inl, inr, eqb-true, not, Option, None, Some}
+use Rattle.std.proofs.lemmas.Bool.{or_from, or_parts, cases_Bool}
 use Rattle.c_tree.specs.Plain.{Word, PlainExpr, lit, var, cell, un, bin, cast, test, umin, umax, least, greatest, widen, PlainExprs, no_exprs, more_exprs, PlainStmt, loop, choice, assign, PlainStmts, no_stmts, more_stmts}
 use Rattle.c_tree.specs.Trees.{stmts_of}
 use Rattle.c_tree.specs.declared.expr.BinOp.TheVariants.{Add}
 use Rattle.instrumentation.specs.Names.{count, pass_variable, active, counter}
 use Rattle.c_tree.specs.Instances.{sites, sites_all}
 use Rattle.instrumentation.specs.Body.{full}
-use Rattle.instrumentation.specs.Passes.{renamed, renamed_all, renamed_tests, Target, same_cell, set_word, count_cell, count_reads, same_instance, own_write, write_text, count_write, copied, copied_all, standing, pass_text}
+use Rattle.instrumentation.specs.Subscripts.{indices_in}
+use Rattle.instrumentation.specs.Inspects.{read_irregularly, inspects, inspects_all}
+use Rattle.instrumentation.proofs.Subscripts.{cell_or_not, not_by_cell}
+use Rattle.acceptance_laws.proofs.IndexCells.{readable_indices}
+use Rattle.instrumentation.specs.Passes.{renamed, renamed_all, renamed_tests, Target, same_cell, set_word, count_cell, count_indices, count_reads, same_instance, own_write, write_text, count_write, copied, copied_all, standing, pass_text}
 use Rattle.acceptance.specs.Items.{Loop, Scope, is_loop}
-use Rattle.acceptance_laws.proofs.Expressions.{IsWordAt, IsIndex, AreIndices, IsData, IsTarget, widen_wide}
+use Rattle.acceptance_laws.proofs.Expressions.{IsWordAt, IsIndex, AreIndices, IsSubscript, AreReadable, IsValue, IsTarget, widen_wide}
 use Rattle.acceptance_laws.proofs.Fine.{inside, StmtFine, TextFine, fine_join}
 use Rattle.acceptance_laws.proofs.Statements.{AreTests, word_fine, wide_fine, choice_fine, loop_fine}
 use Rattle.acceptance_laws.proofs.Declared.{Declares, AreFree, word_inside, wide_inside, loop_signed}
 use Rattle.acceptance_laws.proofs.Sources.{IsSource, AreSource, AreSigned, IsSeen, Sees, AllSee}
 use Rattle.acceptance_laws.proofs.Renamed.{Reaches, indices_reach, index_renamed, indices_renamed, tests_renamed, Copies, NoPass, copies_none, copies_more}
+
+not_false : (b : Bool) → not b ≡ false → b ≡ true
+not_false true h = refl
+not_false false h = sym h
 
 -- one cell's subscripts against another's
 same_cell_tests : (sc : Scope) (ds es : PlainExprs) → AreIndices sc ds → AreIndices sc es → AreTests sc (same_cell ds es)
@@ -27,7 +35,7 @@ signed_reach sc sd r [] h = tt
 signed_reach sc sd r (x ∷ xs) h = (r x h.0, signed_reach sc sd r xs h.1)
 
 -- a text that stands where a test holds
-fine_if : (f : Word) (sc : Scope) (ls : List Loop) (b : Bool) (ss : List PlainStmt) → TextFine f sc ss ls → TextFine f sc (if b then ss else []) ls
+pub fine_if : (f : Word) (sc : Scope) (ls : List Loop) (b : Bool) (ss : List PlainStmt) → TextFine f sc ss ls → TextFine f sc (if b then ss else []) ls
 fine_if f sc ls true ss h = h
 fine_if f sc ls false ss h = tt
 
@@ -58,6 +66,21 @@ module _ (f : Word) (number : Word → ℕ) (few : ℕ) (sc : Scope) (declares :
         fine_if f sc copies (nat_eq (number x) target.array) (choice ts first no_stmts ∷ [])
         ((choice_fine f (inside sc copies) ts first no_stmts (cell_tests at h), (counted, tt), tt), tt)
 
+    -- of the counted array no read has an index cell
+    read_count_fine : (x : Word) (at : PlainExprs) → AreReadable (inside sc ls) at → read_irregularly number target.array (cell x at) ≡ false → TextFine f sc (count_cell number target xs x at) copies
+    read_count_fine x at h g = elim (cases_Bool (nat_eq (number x) target.array)) [
+      | inl e ↦ count_cell_fine x at (readable_indices (inside sc ls) at h (eqb-true (indices_in at) 0 (not_false (nat_eq (indices_in at) 0) (rw e at g))))
+      | inr e ↦ rw e tt
+    ]
+
+    indices_fine : (at : PlainExprs) → AreReadable (inside sc ls) at → TextFine f sc (count_indices number target xs at) copies
+    indices_fine no_exprs h = tt
+    indices_fine (more_exprs e es) h =
+        cell_or_not (λ e. IsSubscript (inside sc ls) e → TextFine f sc (count_indices number target xs (more_exprs e es)) copies)
+        (λ x at c. fine_join f sc copies (count_cell number target xs x at) (count_indices number target xs es) (count_cell_fine x at c.subscripts) (indices_fine es h.1))
+        (λ e other c. subst (λ (l : List PlainStmt). TextFine f sc l copies) (sym (not_by_cell e (λ x at. count_cell number target xs x at ++ count_indices number target xs es) (count_indices number target xs es) other)) (indices_fine es h.1))
+        e h.0
+
     index_counts_fine : (e : PlainExpr) → IsIndex (inside sc ls) false e → TextFine f sc (count_reads number target xs e) copies
     index_counts_fine (lit n) h = tt
     index_counts_fine (var x) h = tt
@@ -67,18 +90,18 @@ module _ (f : Word) (number : Word → ℕ) (few : ℕ) (sc : Scope) (declares :
     index_counts_fine (greatest a b) h = tt
     index_counts_fine _ h = absurd h
 
-    counts_fine : (e : PlainExpr) → IsData (inside sc ls) e → TextFine f sc (count_reads number target xs e) copies
-    counts_fine (lit n) h = tt
-    counts_fine (var x) h = tt
-    counts_fine (cell x at) h = count_cell_fine x at h.subscripts
-    counts_fine (un op a) h = counts_fine a h
-    counts_fine (bin op a b) h = fine_join f sc copies (count_reads number target xs a) (count_reads number target xs b) (counts_fine a h.1) (counts_fine b h.2)
-    counts_fine (cast a) (inl h) = counts_fine a h
-    counts_fine (cast a) (inr h) = index_counts_fine a h
-    counts_fine (test rel a b) h = fine_join f sc copies (count_reads number target xs a) (count_reads number target xs b) (counts_fine a h.0) (counts_fine b h.1)
-    counts_fine (umin a b) h = fine_join f sc copies (count_reads number target xs a) (count_reads number target xs b) (counts_fine a h.0) (counts_fine b h.1)
-    counts_fine (umax a b) h = fine_join f sc copies (count_reads number target xs a) (count_reads number target xs b) (counts_fine a h.0) (counts_fine b h.1)
-    counts_fine _ h = absurd h
+    counts_fine : (e : PlainExpr) → IsValue (inside sc ls) e → read_irregularly number target.array e ≡ false → TextFine f sc (count_reads number target xs e) copies
+    counts_fine (lit n) h g = tt
+    counts_fine (var x) h g = tt
+    counts_fine (cell x at) h g = fine_join f sc copies (count_indices number target xs at) (count_cell number target xs x at) (indices_fine at h.subscripts) (read_count_fine x at h.subscripts g)
+    counts_fine (un op a) h g = counts_fine a h g
+    counts_fine (bin op a b) h g = (let p = or_parts (read_irregularly number target.array a) (read_irregularly number target.array b) g in fine_join f sc copies (count_reads number target xs a) (count_reads number target xs b) (counts_fine a h.1 p.0) (counts_fine b h.2 p.1))
+    counts_fine (cast a) (inl h) g = counts_fine a h g
+    counts_fine (cast a) (inr h) g = index_counts_fine a h
+    counts_fine (test rel a b) h g = (let p = or_parts (read_irregularly number target.array a) (read_irregularly number target.array b) g in fine_join f sc copies (count_reads number target xs a) (count_reads number target xs b) (counts_fine a h.0 p.0) (counts_fine b h.1 p.1))
+    counts_fine (umin a b) h g = (let p = or_parts (read_irregularly number target.array a) (read_irregularly number target.array b) g in fine_join f sc copies (count_reads number target xs a) (count_reads number target xs b) (counts_fine a h.0 p.0) (counts_fine b h.1 p.1))
+    counts_fine (umax a b) h g = (let p = or_parts (read_irregularly number target.array a) (read_irregularly number target.array b) g in fine_join f sc copies (count_reads number target xs a) (count_reads number target xs b) (counts_fine a h.0 p.0) (counts_fine b h.1 p.1))
+    counts_fine _ h g = absurd h
 
     -- ---- the write
 
@@ -117,9 +140,9 @@ module _ (f : Word) (number : Word → ℕ) (few : ℕ) (sc : Scope) (declares :
   -- ---- the copy
 
   mutual
-    copied_fine : (s : PlainStmt) (k : ℕ) (xs : List Word) (ls copies : List Loop) → Copies sc around xs ls copies → IsSource f sc s ls → Sees (inside sc around) site xs k s →
+    copied_fine : (s : PlainStmt) (k : ℕ) (xs : List Word) (ls copies : List Loop) → Copies sc around xs ls copies → IsSource f sc s ls → inspects number target.array s ≡ false → Sees (inside sc around) site xs k s →
         TextFine f sc (copied number target site xs k s) copies
-    copied_fine (loop x lo rel hi body) k xs ls copies c h g =
+    copied_fine (loop x lo rel hi body) k xs ls copies c h n g =
         let l : Loop = record { name = x; lo = lo; rel = rel; hi = hi } in
         let m : Loop = record { name = pass_variable (length xs); lo = renamed xs lo; rel = rel; hi = renamed xs hi } in
         let free = declares.variables_free (length xs) in
@@ -131,39 +154,41 @@ module _ (f : Word) (number : Word → ℕ) (few : ℕ) (sc : Scope) (declares :
                 (declares.variables_differ (length xs)) (or_from _ _ fresh free)
                 (index_renamed (inside sc ls) xs (inside sc copies) c.renames true lo h.1)
                 (index_renamed (inside sc ls) xs (inside sc copies) c.renames true hi h.2),
-            all_copied_fine body k (x ∷ xs) (l ∷ ls) (m ∷ copies) (copies_more sc around xs ls copies c free shallow l m refl) h.3 g,
+            all_copied_fine body k (x ∷ xs) (l ∷ ls) (m ∷ copies) (copies_more sc around xs ls copies c free shallow l m refl) h.3 n g,
           ),
           tt,
         )
-    copied_fine (choice ts first other) k xs ls copies c h g = (
-      (
-        choice_fine f (inside sc copies) (renamed_tests xs ts) (stmts_of (copied_all number target site xs k first)) (stmts_of (copied_all number target site xs (k + sites_all first) other))
-            (tests_renamed (inside sc ls) xs (inside sc copies) c.renames ts h.0),
-        all_copied_fine first k xs ls copies c h.1 g.0,
-        all_copied_fine other (k + sites_all first) xs ls copies c h.2 g.1,
-      ),
-      tt,
-    )
-    copied_fine (assign t op e) k xs ls copies c h g =
-        fine_join f sc copies (count_reads number target xs (full t op e)) (count_write number target site xs k t) (counts_fine xs ls copies c (full t op e) h.1) (count_write_fine xs ls copies c k t h.0 g)
-    copied_fine _ k xs ls copies c h g = absurd h
+    copied_fine (choice ts first other) k xs ls copies c h n g =
+        let o = or_parts (inspects_all number target.array first) (inspects_all number target.array other) n in (
+          (
+            choice_fine f (inside sc copies) (renamed_tests xs ts) (stmts_of (copied_all number target site xs k first)) (stmts_of (copied_all number target site xs (k + sites_all first) other))
+                (tests_renamed (inside sc ls) xs (inside sc copies) c.renames ts h.0),
+            all_copied_fine first k xs ls copies c h.1 o.0 g.0,
+            all_copied_fine other (k + sites_all first) xs ls copies c h.2 o.1 g.1,
+          ),
+          tt,
+        )
+    copied_fine (assign t op e) k xs ls copies c h n g =
+        fine_join f sc copies (count_reads number target xs (full t op e)) (count_write number target site xs k t) (counts_fine xs ls copies c (full t op e) h.1 n) (count_write_fine xs ls copies c k t h.0 g)
+    copied_fine _ k xs ls copies c h n g = absurd h
 
-    all_copied_fine : (ss : PlainStmts) (k : ℕ) (xs : List Word) (ls copies : List Loop) → Copies sc around xs ls copies → AreSource f sc ss ls → AllSee (inside sc around) site xs k ss →
+    all_copied_fine : (ss : PlainStmts) (k : ℕ) (xs : List Word) (ls copies : List Loop) → Copies sc around xs ls copies → AreSource f sc ss ls → inspects_all number target.array ss ≡ false → AllSee (inside sc around) site xs k ss →
         TextFine f sc (copied_all number target site xs k ss) copies
-    all_copied_fine no_stmts k xs ls copies c h g = tt
-    all_copied_fine (more_stmts s ss) k xs ls copies c h g =
-        fine_join f sc copies (copied number target site xs k s) (copied_all number target site xs (k + sites s) ss) (copied_fine s k xs ls copies c h.0 g.0) (all_copied_fine ss (k + sites s) xs ls copies c h.1 g.1)
+    all_copied_fine no_stmts k xs ls copies c h n g = tt
+    all_copied_fine (more_stmts s ss) k xs ls copies c h n g =
+        let o = or_parts (inspects number target.array s) (inspects_all number target.array ss) n in
+        fine_join f sc copies (copied number target site xs k s) (copied_all number target site xs (k + sites s) ss) (copied_fine s k xs ls copies c h.0 o.0 g.0) (all_copied_fine ss (k + sites s) xs ls copies c h.1 o.1 g.1)
 
   -- ---- the pass
 
-  pub pass_fine : (whole : PlainStmts) → AreFree sc around → NoPass around → AreSource f sc whole [] → AllSee (inside sc around) site [] 0 whole → TextFine f sc (pass_text number whole target site) around
-  pass_fine whole free none source sees =
+  pub pass_fine : (whole : PlainStmts) → AreFree sc around → NoPass around → AreSource f sc whole [] → inspects_all number target.array whole ≡ false → AllSee (inside sc around) site [] 0 whole → TextFine f sc (pass_text number whole target site) around
+  pass_fine whole free none source plain sees =
       let c : Copies sc around [] [] around = copies_none sc around free none in
       let counter_here : IsWordAt (inside sc around) counter = word_inside sc around counter free declares.counter_word in (
         set_active_fine [] [] around c (standing site),
         (
           word_fine f (inside sc around) counter None (lit 0) counter_here tt,
-          fine_join f sc around (copied_all number target site [] 0 whole) (assign (var count) None (widen (var counter)) ∷ []) (all_copied_fine whole 0 [] [] around c source sees)
+          fine_join f sc around (copied_all number target site [] 0 whole) (assign (var count) None (widen (var counter)) ∷ []) (all_copied_fine whole 0 [] [] around c source plain sees)
               (wide_fine f (inside sc around) count None (widen (var counter)) refl (wide_inside sc around count declares.count_wide) (widen_wide (inside sc around) counter counter_here), tt),
         ),
       )

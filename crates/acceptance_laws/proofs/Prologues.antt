@@ -8,6 +8,7 @@ use Rattle.c_tree.specs.declared.expr.Rel.TheVariants.{Lt}
 use Rattle.c_tree.specs.declared.expr.BinOp.TheVariants.{Add, Mul}
 use Rattle.instrumentation.specs.Names.{register, count, definition_total, coordinate, pass_variable}
 use Rattle.c_tree.specs.Instances.{sites, sites_all}
+use Rattle.instrumentation.specs.Inspects.{inspects_all}
 use Rattle.instrumentation.specs.Passes.{coordinates_from, cell_piece}
 use Rattle.instrumentation.specs.Prologue.{cell_loops, add_cell, cell_text, array_text, prologue_text}
 use Rattle.acceptance.specs.Items.{Loop, Scope, is_loop, is_array}
@@ -72,8 +73,13 @@ abbrev pub AreArrays : Scope → (Word → ℕ) → ℕ → List (Word × PlainE
 AreArrays sc number a [] = Unit {0}
 AreArrays sc number a (x ∷ more) = IsArrayAt sc number a x.0 x.1 × AreArrays sc number (suc a) more
 
+-- the piece of each array is fine inside the loops over its cells
+abbrev pub ArePieces : Word → Scope → (ℕ → PlainExprs → List PlainStmt) → ℕ → List (Word × PlainExprs) → Type 0
+ArePieces f sc piece a [] = Unit {0}
+ArePieces f sc piece a (x ∷ more) = TextFine f sc (piece a x.1) (coordinate_loops 0 x.1 []) × ArePieces f sc piece (suc a) more
+
 module _ (f : Word) (number : Word → ℕ) (few : ℕ) (sc : Scope) (declares : Declares f number few sc) where
-  loops_free : (d : ℕ) (es : PlainExprs) (ls : List Loop) → AreFree sc ls → AreFree sc (coordinate_loops d es ls)
+  pub loops_free : (d : ℕ) (es : PlainExprs) (ls : List Loop) → AreFree sc ls → AreFree sc (coordinate_loops d es ls)
   loops_free d no_exprs ls h = h
   loops_free d (more_exprs e es) ls h = loops_free (suc d) es (record { name = coordinate d; lo = lit 0; rel = Lt; hi = e } ∷ ls) (declares.coordinates_free d, h)
 
@@ -87,7 +93,7 @@ module _ (f : Word) (number : Word → ℕ) (few : ℕ) (sc : Scope) (declares :
       let l : Loop = record { name = coordinate d; lo = lit 0; rel = Lt; hi = e } in
       loops_reach (suc d) es (l ∷ ls) x (reaches_more sc l ls x h)
 
-  coordinates_signed : (d : ℕ) (es : PlainExprs) (ls : List Loop) → AreIndices (inside sc (coordinate_loops d es ls)) (coordinates_from d es)
+  pub coordinates_signed : (d : ℕ) (es : PlainExprs) (ls : List Loop) → AreIndices (inside sc (coordinate_loops d es ls)) (coordinates_from d es)
   coordinates_signed d no_exprs ls = tt
   coordinates_signed d (more_exprs e es) ls =
       let l : Loop = record { name = coordinate d; lo = lit 0; rel = Lt; hi = e } in (
@@ -125,17 +131,21 @@ module _ (f : Word) (number : Word → ℕ) (few : ℕ) (sc : Scope) (declares :
           ),
         )
 
-    module _ (whole : PlainStmts) (source : AreSource f sc whole []) where
-      array_fine : (a : ℕ) (x : Word) (extents : PlainExprs) → IsArrayAt sc number a x extents → TextFine f sc (array_text a x extents (cell_piece number whole a extents)) []
-      array_fine a x extents array =
-          let ls : List Loop = coordinate_loops 0 extents [] in
-          let free : AreFree sc ls = loops_free 0 extents [] tt in
-          let indices : AreIndices (inside sc ls) (coordinates_from 0 extents) = coordinates_signed 0 extents [] in
-          cell_loops_fine (cell_text a x extents (cell_piece number whole a extents)) 0 extents [] array.extents_signed (λ i h g. refl) (let s = array.few in omega arith)
-          (cell_text_fine ls free a x extents (cell_piece number whole a extents) array indices
-          (pass_fine f number few sc declares (record { array = a; at = coordinates_from 0 extents }) None ls indices whole free (loops_no_pass 0 extents [] (λ d. refl)) source (all_see_none (inside sc ls) [] 0 whole)))
+    array_fine : (a : ℕ) (x : Word) (extents : PlainExprs) (piece : List PlainStmt) → IsArrayAt sc number a x extents → TextFine f sc piece (coordinate_loops 0 extents []) → TextFine f sc (array_text a x extents piece) []
+    array_fine a x extents piece array p =
+        let ls : List Loop = coordinate_loops 0 extents [] in
+        let free : AreFree sc ls = loops_free 0 extents [] tt in
+        let indices : AreIndices (inside sc ls) (coordinates_from 0 extents) = coordinates_signed 0 extents [] in
+        cell_loops_fine (cell_text a x extents piece) 0 extents [] array.extents_signed (λ i h g. refl) (let s = array.few in omega arith)
+        (cell_text_fine ls free a x extents piece array indices p)
 
-      pub prologue_fine : (a : ℕ) (arrays : List (Word × PlainExprs)) → AreArrays sc number a arrays → TextFine f sc (prologue_text (cell_piece number whole) a arrays) []
-      prologue_fine a [] h = tt
-      prologue_fine a (x ∷ more) h =
-          fine_join f sc [] (array_text a x.0 x.1 (cell_piece number whole a x.1)) (prologue_text (cell_piece number whole) (suc a) more) (array_fine a x.0 x.1 h.0) (prologue_fine (suc a) more h.1)
+    pub prologue_fine : (piece : ℕ → PlainExprs → List PlainStmt) (a : ℕ) (arrays : List (Word × PlainExprs)) → AreArrays sc number a arrays → ArePieces f sc piece a arrays → TextFine f sc (prologue_text piece a arrays) []
+    prologue_fine piece a [] h p = tt
+    prologue_fine piece a (x ∷ more) h p =
+        fine_join f sc [] (array_text a x.0 x.1 (piece a x.1)) (prologue_text piece (suc a) more) (array_fine a x.0 x.1 (piece a x.1) h.0 p.0) (prologue_fine piece (suc a) more h.1 p.1)
+
+  -- the counting pass of an initial cell, inside its loops
+  pub cell_piece_fine : (whole : PlainStmts) → AreSource f sc whole [] → (a : ℕ) (extents : PlainExprs) → inspects_all number a whole ≡ false → TextFine f sc (cell_piece number whole a extents) (coordinate_loops 0 extents [])
+  cell_piece_fine whole source a extents plain =
+      let ls : List Loop = coordinate_loops 0 extents [] in
+      pass_fine f number few sc declares (record { array = a; at = coordinates_from 0 extents }) None ls (coordinates_signed 0 extents []) whole (loops_free 0 extents [] tt) (loops_no_pass 0 extents [] (λ d. refl)) source plain (all_see_none (inside sc ls) [] 0 whole)

@@ -30,6 +30,10 @@ pub indices_reach : (sc sd : Scope) → Reaches sc sd → (es : PlainExprs) → 
 indices_reach sc sd r no_exprs h = tt
 indices_reach sc sd r (more_exprs e es) h = (index_reaches sc sd r false e h.0, indices_reach sc sd r es h.1)
 
+-- what is signed outside every loop is signed inside loops
+pub head_reaches : (sc : Scope) (ls : List Loop) → Reaches (inside sc []) (inside sc ls)
+head_reaches sc ls x h = record { signed = or_right (is_loop ls x) _ h.signed; flat = h.flat }
+
 -- what is signed is signed inside one more loop
 pub reaches_more : (sc : Scope) (l : Loop) (ls : List Loop) → Reaches (inside sc ls) (inside sc (l ∷ ls))
 reaches_more sc l ls x h = record { signed = more (bytes_eq l.name x) (is_loop ls x) (is_int sc.params x) h.signed; flat = h.flat }

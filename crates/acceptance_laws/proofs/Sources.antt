@@ -1,4 +1,4 @@
--- What is asked of the statements of a source, for its instrumented text to be accepted: kinds, free names, and signed subscripts.
+-- What is asked of the statements of a source, for its instrumented text to be accepted: kinds, free names, and subscripts that are signed or index cells.
 use Rattle.std.proofs.Common.{◌≡◌, ℕ, ◌+◌, ◌<◌, ◌^◌, true, false, nat_eq, List, [], ◌∷◌, length, Option, None, Some}
 use Rattle.std.specs.Prelude.{bytes_eq}
 use Rattle.c_tree.specs.Plain.{Word, PlainStmt, loop, choice, assign, table, begin, check, verdict, PlainStmts, no_stmts, more_stmts}
@@ -6,7 +6,7 @@ use Rattle.instrumentation.specs.Names.{pass_variable}
 use Rattle.c_tree.specs.Instances.{sites, sites_all}
 use Rattle.instrumentation.specs.Body.{full}
 use Rattle.acceptance.specs.Items.{Loop, Scope, is_known}
-use Rattle.acceptance_laws.proofs.Expressions.{IsSignedAt, IsIndex, IsData, IsTarget}
+use Rattle.acceptance_laws.proofs.Expressions.{IsSignedAt, IsIndex, IsValue, IsTarget}
 use Rattle.acceptance_laws.proofs.Statements.{AreTests}
 use Rattle.acceptance_laws.proofs.Fine.{inside}
 
@@ -23,7 +23,7 @@ abbrev mutual
       IsLoopName f sc ls x × IsIndex (inside sc ls) true lo × IsIndex (inside sc ls) true hi
       × AreSource f sc body (record { name = x; lo = lo; rel = rel; hi = hi } ∷ ls)
   IsSource f sc (choice ts first other) ls = AreTests (inside sc ls) ts × AreSource f sc first ls × AreSource f sc other ls
-  IsSource f sc (assign t op e) ls = IsTarget (inside sc ls) t × IsData (inside sc ls) (full t op e)
+  IsSource f sc (assign t op e) ls = IsTarget (inside sc ls) t × IsValue (inside sc ls) (full t op e)
   IsSource f sc (table x len) ls = ⊥
   IsSource f sc begin ls = ⊥
   IsSource f sc (check x extent a) ls = ⊥

@@ -1,16 +1,17 @@
 -- Single statements of a text: no condition holds at them where their names and expressions are of the kinds that they take.
-use Rattle.std.proofs.Common.{◌≡◌, true, false, ◌&&◌, List, [], ◌∷◌, refl, Option}
+use Rattle.std.proofs.Common.{◌≡◌, ℕ, true, false, ◌&&◌, List, [], ◌∷◌, refl, Option}
 use Rattle.std.specs.Prelude.{bytes_eq}
 use Rattle.std.specs.List.{list_all}
 use Rattle.std.proofs.lemmas.Bool.{and_from, and_parts, or_from, or_left, or_right}
-use Rattle.c_tree.specs.Plain.{Word, PlainExpr, var, cell, PlainExprs, PlainTest, loop, choice, assign, verdict, PlainStmts}
+use Rattle.c_tree.specs.Plain.{Word, PlainExpr, var, cell, PlainExprs, PlainTest, loop, choice, assign, table, check, verdict, PlainStmts}
 use Rattle.c_tree.specs.Names.{is_among}
 use Rattle.c_tree.specs.Kinds.{join, is_word}
 use Rattle.c_tree.specs.declared.expr.Rel.{Rel}
 use Rattle.c_tree.specs.declared.expr.BinOp.{BinOp}
-use Rattle.acceptance.specs.Items.{Scope, is_known}
+use Rattle.instrumentation.specs.Tables.{one}
+use Rattle.acceptance.specs.Items.{Scope, is_declared, is_known}
 use Rattle.acceptance.specs.Printed.{dimensions, total_names_from, tests_use_known, tests_fit, fits_dimensions, names_fit, literals_fit, kind_of, is_test, is_wide_op, is_wide_expr}
-use Rattle.acceptance_laws.proofs.Expressions.{IsWordAt, IsWideAt, IsGood, IsIndex, IsCellAt, IsData, IsWide, good_var, word_known, wide_known, index_good, index_signed, index_no_word, join_no_word, cell_good, data_good, data_word}
+use Rattle.acceptance_laws.proofs.Expressions.{IsWordAt, IsWideAt, IsGood, IsIndex, IsCellAt, IsData, IsWide, IsWords, IsTableAt, entry_words, flat_fits, good_var, word_known, wide_known, index_good, index_signed, index_no_word, join_no_word, cell_good, data_good, data_word}
 use Rattle.acceptance_laws.proofs.Fine.{IsFine}
 
 -- ---- assignments
@@ -52,6 +53,55 @@ store_fine f sc x at op e c d =
       literals = and_from _ _ t.literals g.literals;
       kinds = and_from _ _ (data_word sc (cell x at) c) (data_word sc e d);
     }
+
+-- a word expression, entries of tables among what it reads
+pub words_fine : (f : Word) (sc : Scope) (x : Word) (op : Option BinOp) (e : PlainExpr) → IsWordAt sc x → IsWords sc e → IsFine f sc (assign (var x) op e)
+words_fine f sc x op e w d =
+    let t : IsGood sc (var x) = good_var sc x (word_known sc x w.declared) w.flat in
+    record {
+      once = refl;
+      known = and_from _ _ t.known d.good.known;
+      fits = and_from _ _ t.fits d.good.fits;
+      flat = refl;
+      literals = d.good.literals;
+      kinds = or_left _ (is_among sc.wides x && (is_wide_op op && is_wide_expr sc e)) (and_from _ _ w.declared d.word);
+    }
+
+pub entry_fine : (f : Word) (sc : Scope) (x : Word) (i : PlainExpr) (op : Option BinOp) (e : PlainExpr) → IsTableAt sc x → IsWords sc i → IsWords sc e → IsFine f sc (assign (cell x (one i)) op e)
+entry_fine f sc x i op e t h d =
+    let c : IsWords sc (cell x (one i)) = entry_words sc x i t h in
+    record {
+      once = refl;
+      known = and_from _ _ c.good.known d.good.known;
+      fits = and_from _ _ c.good.fits d.good.fits;
+      flat = refl;
+      literals = and_from _ _ c.good.literals d.good.literals;
+      kinds = and_from _ _ c.word d.word;
+    }
+
+-- ---- checks and tables
+
+pub check_fine : (f : Word) (sc : Scope) (x : Word) (extent : PlainExpr) (a : ℕ) → IsWordAt sc x → IsIndex sc false extent → IsFine f sc (check x extent a)
+check_fine f sc x extent a w h =
+    let g : IsGood sc extent = index_good sc false extent h in
+    record {
+      once = refl;
+      known = and_from _ _ (word_known sc x w.declared) g.known;
+      fits = g.fits;
+      flat = and_from _ _ (flat_fits (dimensions sc x) w.flat) refl;
+      literals = g.literals;
+      kinds = and_from _ _ w.declared (index_signed sc false extent h);
+    }
+
+pub table_fine : (f : Word) (sc : Scope) (x : Word) (len : PlainExpr) → bytes_eq f x ≡ false → is_declared sc x ≡ false → IsWords sc len → IsFine f sc (table x len)
+table_fine f sc x len differs fresh h = record {
+  once = or_from _ _ differs fresh;
+  known = h.good.known;
+  fits = h.good.fits;
+  flat = refl;
+  literals = h.good.literals;
+  kinds = h.word;
+}
 
 -- ---- tests of signed values
 

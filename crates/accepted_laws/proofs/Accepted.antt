@@ -1,22 +1,24 @@
--- An accepted source in which no subscript is a cell is regular.
+-- An accepted source is suited.
 use Rattle.std.proofs.Common.{◌≡◌, ℕ, ◌+◌, ◌≤◌, suc, Bool, true, false, not, ◌&&◌, ◌||◌, List, [], ◌∷◌, length, refl, sym, ap, subst, arith, inl, inr, true≢false, Option, None, Some}
-use Rattle.std.specs.List.{list_any, AllByRecursion}
+use Rattle.std.specs.List.{list_all, list_any, AllByRecursion}
 use Rattle.std.proofs.lemmas.Bool.{and_from, and_parts, not-false, or_from, or_parts, cases_Bool}
 use Rattle.c_tree.specs.Plain.{Word, PlainExpr, lit, var, cell, un, bin, cast, test, umin, umax, least, greatest, widen, big, PlainExprs, no_exprs, more_exprs, PlainTest, PlainStmt, loop, choice, assign, table, begin, check, verdict, PlainStmts, no_stmts, more_stmts, PlainParam, int_param, array_param, PlainUnit}
 use Rattle.c_tree.specs.Reserved.{is_reserved}
 use Rattle.c_tree.specs.declared.expr.BinOp.{BinOp}
+use Rattle.instrumentation.specs.Subscripts.{indices_in}
+use Rattle.instrumentation.proofs.Subscripts.{cell_or_not, not_by_cell}
 use Rattle.instrumentation.specs.Body.{reads_in, full}
 use Rattle.instrumentation.specs.Guarded.{array_names}
 use Rattle.acceptance.specs.Items.{Loop, Item, items, items_all, tables_after, Scope, scope_of, is_loop, is_int, param_name}
 use Rattle.acceptance.specs.Affine.{is_affine}
-use Rattle.acceptance.specs.Head.{extents_known}
+use Rattle.acceptance.specs.Head.{list_of, extents_known}
 use Rattle.acceptance.specs.Printed.{tests_fit}
 use Rattle.acceptance.specs.Parts as parts
-use Rattle.acceptance.specs.Parts.{has_signed, subscript_holds, subscripts_hold, parts_hold, item_parts_hold, is_cell, are_regular, cells_hold}
-use Rattle.acceptance.specs.Limits.{array_count, depth, cells_in, reads_to, reads_of}
-use Rattle.acceptance.specs.Trees.{IsTree, AreSubscripts, is_place, IsInner, AreInner}
-use Rattle.acceptance.specs.Sources.{target_holds, is_const_array, IsAcceptedSource, is_regular, all_are_regular}
-use Rattle.accepted_laws.specs.Regular.{all_affine, are_subscripts, is_data, tests_affine, is_target, item_is_affine, IsFew, IsRegularItem, StmtRegular, AllRegular, AreFreeParams, AreFreeWords, IsRegular}
+use Rattle.acceptance.specs.Parts.{has_signed, subscript_holds, subscripts_hold, parts_hold, item_parts_hold, is_cell, are_regular}
+use Rattle.acceptance.specs.Limits.{array_count, depth, cells_in, cells_in_all, reads_to, reads_of}
+use Rattle.acceptance.specs.Trees.{IsTree, AreTrees, AreSubscripts, is_place, IsInner, AreInner}
+use Rattle.acceptance.specs.Sources.{target_holds, is_const_array, writes_regular, IsAcceptedSource}
+use Rattle.accepted_laws.specs.Suited.{all_affine, are_subscripts, is_subscript, all_readable, are_readable, is_data, tests_affine, is_target, item_is_affine, IsFew, IsSuitedItem, StmtSuited, AllSuited, AreFreeParams, AreFreeWords, IsSuited}
 use Rattle.accepted_laws.proofs.TextTrees.{ranked}
 use Rattle.accepted_laws.proofs.Clear.{Clear, Unrefused, unrefused, all_front, all_back, tables_same}
 
@@ -27,10 +29,16 @@ same_count [] = refl
 same_count (int_param x ∷ ps) = same_count ps
 same_count (array_param x c es ∷ ps) = ap suc (same_count ps)
 
+few_indices : (at : PlainExprs) → indices_in at ≤ cells_in_all at
+few_indices no_exprs = omega arith
+few_indices (more_exprs e es) =
+    cell_or_not (λ e. indices_in (more_exprs e es) ≤ cells_in_all (more_exprs e es)) (λ x at. (let p = few_indices es in omega arith))
+    (λ e other. (let p = few_indices es in let q : indices_in (more_exprs e es) ≡ indices_in es = not_by_cell e (λ x at. 1 + indices_in es) (indices_in es) other in omega arith)) e
+
 few_cells : (e : PlainExpr) → reads_in e ≤ cells_in e
 few_cells (lit n) = omega arith
 few_cells (var x) = omega arith
-few_cells (cell x at) = omega arith
+few_cells (cell x at) = (let p = few_indices at in omega arith)
 few_cells (un op a) = few_cells a
 few_cells (bin op a b) = (let p = few_cells a in let q = few_cells b in omega arith)
 few_cells (cast a) = few_cells a
@@ -84,6 +92,41 @@ module _ (sc : Scope) where
   subscripts_are no_exprs o n h = absurd o
   subscripts_are (more_exprs e es) o n h = all_are (more_exprs e es) n h
 
+  -- ---- a read's subscripts
+
+  listed_affine : (es : PlainExprs) → list_all (is_affine sc) (list_of es) ≡ true → all_affine sc es ≡ true
+  listed_affine no_exprs h = refl
+  listed_affine (more_exprs e es) h = (let p : (is_affine sc e ≡ true) × (list_all (is_affine sc) (list_of es) ≡ true) = and_parts _ _ h in and_from _ _ p.0 (listed_affine es p.1))
+
+  index_cell_is : (at : PlainExprs) → AreSubscripts false at → list_all (is_affine sc) (list_of at) ≡ true → are_subscripts sc at ≡ true
+  index_cell_is no_exprs t h = absurd t
+  index_cell_is (more_exprs e es) t h = listed_affine (more_exprs e es) h
+
+  subscript_is : (e : PlainExpr) → IsTree false e → subscript_holds (is_affine sc) e ≡ true → is_subscript sc e ≡ true
+  subscript_is (cell x at) t h = index_cell_is at t.1 h
+  subscript_is (lit k) t h = h
+  subscript_is (var x) t h = h
+  subscript_is (un op a) t h = h
+  subscript_is (bin op a b) t h = h
+  subscript_is (cast a) t h = h
+  subscript_is (test rel a b) t h = h
+  subscript_is (umin a b) t h = h
+  subscript_is (umax a b) t h = h
+  subscript_is (least a b) t h = h
+  subscript_is (greatest a b) t h = h
+  subscript_is (widen a) t h = h
+  subscript_is (big high low) t h = h
+
+  all_subscripts_are : (es : PlainExprs) → AreTrees false es → subscripts_hold (is_affine sc) es ≡ true → all_readable sc es ≡ true
+  all_subscripts_are no_exprs t h = refl
+  all_subscripts_are (more_exprs e es) t h =
+      let p : (subscript_holds (is_affine sc) e ≡ true) × (subscripts_hold (is_affine sc) es ≡ true) = and_parts _ _ h in
+      and_from _ _ (subscript_is e t.0 p.0) (all_subscripts_are es t.1 p.1)
+
+  readable_is : (es : PlainExprs) → AreSubscripts false es → subscripts_hold (is_affine sc) es ≡ true → are_readable sc es ≡ true
+  readable_is no_exprs t h = absurd t
+  readable_is (more_exprs e es) t h = all_subscripts_are (more_exprs e es) t h
+
   pub unsigned_data : (e : PlainExpr) → has_signed sc e ≡ false → parts.is_data sc e ≡ true
   unsigned_data (lit n) h = refl
   unsigned_data (var x) h = ap not h
@@ -99,34 +142,30 @@ module _ (sc : Scope) where
   unsigned_data (widen a) h = unsigned_data a h
   unsigned_data (big high low) h = refl
 
-  abbrev regular_cells : PlainExpr → Bool
-  regular_cells = cells_hold (λ x at. are_regular at)
-
-  two : (a b : PlainExpr) → (parts.is_data sc a && parts.is_data sc b) ≡ true → (regular_cells a && regular_cells b) ≡ true → (parts_hold (is_affine sc) sc a && parts_hold (is_affine sc) sc b) ≡ true
-      → ((parts.is_data sc a ≡ true) × (regular_cells a ≡ true) × (parts_hold (is_affine sc) sc a ≡ true)) × (parts.is_data sc b ≡ true) × (regular_cells b ≡ true) × (parts_hold (is_affine sc) sc b ≡ true)
-  two a b d n h =
+  two : (a b : PlainExpr) → (parts.is_data sc a && parts.is_data sc b) ≡ true → (parts_hold (is_affine sc) sc a && parts_hold (is_affine sc) sc b) ≡ true
+      → ((parts.is_data sc a ≡ true) × (parts_hold (is_affine sc) sc a ≡ true)) × (parts.is_data sc b ≡ true) × (parts_hold (is_affine sc) sc b ≡ true)
+  two a b d h =
       let q = and_parts (parts.is_data sc a) (parts.is_data sc b) d in
-      let r = and_parts (regular_cells a) (regular_cells b) n in
       let s = and_parts (parts_hold (is_affine sc) sc a) (parts_hold (is_affine sc) sc b) h in
-      ((q.0, r.0, s.0), q.1, r.1, s.1)
+      ((q.0, s.0), q.1, s.1)
 
-  data_is : (e : PlainExpr) → IsTree false e → parts.is_data sc e ≡ true → regular_cells e ≡ true → parts_hold (is_affine sc) sc e ≡ true → is_data sc e ≡ true
-  data_is (lit k) t d n h = refl
-  data_is (var x) t d n h = d
-  data_is (cell x at) t d n h = subscripts_are at t.1 n h
-  data_is (un op a) t d n h = data_is a t d n h
-  data_is (bin op a b) t d n h = (let p = two a b d n h in and_from _ _ (data_is a t.0 p.0.0 p.0.1 p.0.2) (data_is b t.1 p.1 p.2 p.3))
-  data_is (cast a) t d n h = elim (cases_Bool (has_signed sc a)) [
+  data_is : (e : PlainExpr) → IsTree false e → parts.is_data sc e ≡ true → parts_hold (is_affine sc) sc e ≡ true → is_data sc e ≡ true
+  data_is (lit k) t d h = refl
+  data_is (var x) t d h = d
+  data_is (cell x at) t d h = readable_is at t.1 h
+  data_is (un op a) t d h = data_is a t d h
+  data_is (bin op a b) t d h = (let p = two a b d h in and_from _ _ (data_is a t.0 p.0.0 p.0.1) (data_is b t.1 p.1 p.2))
+  data_is (cast a) t d h = elim (cases_Bool (has_signed sc a)) [
     | inl e ↦ rw e (rw e at h)
-    | inr e ↦ rw e (data_is a t (unsigned_data a e) n (rw e at h))
+    | inr e ↦ rw e (data_is a t (unsigned_data a e) (rw e at h))
   ]
-  data_is (test rel a b) t d n h = (let p = two a b d n h in and_from _ _ (data_is a t.0 p.0.0 p.0.1 p.0.2) (data_is b t.1 p.1 p.2 p.3))
-  data_is (umin a b) t d n h = (let p = two a b d n h in and_from _ _ (data_is a t.0 p.0.0 p.0.1 p.0.2) (data_is b t.1 p.1 p.2 p.3))
-  data_is (umax a b) t d n h = (let p = two a b d n h in and_from _ _ (data_is a t.0 p.0.0 p.0.1 p.0.2) (data_is b t.1 p.1 p.2 p.3))
-  data_is (least a b) t d n h = absurd (true≢false (sym t.0))
-  data_is (greatest a b) t d n h = absurd (true≢false (sym t.0))
-  data_is (widen a) t d n h = absurd (true≢false (sym t.0))
-  data_is (big high low) t d n h = absurd (true≢false (sym t.0))
+  data_is (test rel a b) t d h = (let p = two a b d h in and_from _ _ (data_is a t.0 p.0.0 p.0.1) (data_is b t.1 p.1 p.2))
+  data_is (umin a b) t d h = (let p = two a b d h in and_from _ _ (data_is a t.0 p.0.0 p.0.1) (data_is b t.1 p.1 p.2))
+  data_is (umax a b) t d h = (let p = two a b d h in and_from _ _ (data_is a t.0 p.0.0 p.0.1) (data_is b t.1 p.1 p.2))
+  data_is (least a b) t d h = absurd (true≢false (sym t.0))
+  data_is (greatest a b) t d h = absurd (true≢false (sym t.0))
+  data_is (widen a) t d h = absurd (true≢false (sym t.0))
+  data_is (big high low) t d h = absurd (true≢false (sym t.0))
 
   tests_are : (ts : List PlainTest) → tests_fit (is_affine sc) ts ≡ true → tests_affine sc ts ≡ true
   tests_are [] h = refl
@@ -147,7 +186,7 @@ module _ (u : PlainUnit) where
   abbrev sets : PlainStmt → List Loop → Bool
   sets s ls = target_holds (λ x. is_const_array u.params x || (is_int u.params x || is_loop ls x)) s
 
-  target_is : (t : PlainExpr) (op : Option BinOp) (e : PlainExpr) (ls : List Loop) → is_place t ≡ true → IsTree false t → sets (assign t op e) ls ≡ false → regular_cells (here ls) t ≡ true
+  target_is : (t : PlainExpr) (op : Option BinOp) (e : PlainExpr) (ls : List Loop) → is_place t ≡ true → IsTree false t → sets (assign t op e) ls ≡ false → writes_regular (assign t op e) ≡ true
       → parts_hold (is_affine (here ls)) (here ls) t ≡ true → is_target (here ls) t ≡ true
   target_is (var x) op e ls o t f n h =
       let p = or_parts (is_const_array u.params x) (is_int u.params x || is_loop ls x) f in
@@ -156,53 +195,50 @@ module _ (u : PlainUnit) where
   target_is (cell x at) op e ls o t f n h = subscripts_are (here ls) at t.1 n h
   target_is _ op e ls o t f n h = absurd (true≢false (sym o))
 
-  item_is : (s : PlainStmt) (ls : List Loop) → IsInner false 0 s → is_regular s ≡ true → Clear u (stands s ls) → item_is_affine (here ls) s ≡ true
-  item_is (loop x lo rel hi body) ls t n c = c.affine
-  item_is (choice ts first other) ls t n c = tests_are (here ls) ts c.affine
-  item_is (assign t op e) ls s n c =
-      let m = and_parts (regular_cells (here ls) t) (regular_cells (here ls) e) n in
+  item_is : (s : PlainStmt) (ls : List Loop) → IsInner false 0 s → Clear u (stands s ls) → item_is_affine (here ls) s ≡ true
+  item_is (loop x lo rel hi body) ls t c = c.affine
+  item_is (choice ts first other) ls t c = tests_are (here ls) ts c.affine
+  item_is (assign t op e) ls s c =
       let p = and_parts (parts_hold (is_affine (here ls)) (here ls) t) (parts_hold (is_affine (here ls)) (here ls) e) c.affine in
-      and_from _ _ (target_is t op e ls s.0 s.2 c.target m.0 p.0) (and_from _ _ s.1 (data_is (here ls) e s.3 c.data_alone m.1 p.1))
-  item_is (table x len) ls t n c = absurd t
-  item_is begin ls t n c = absurd t
-  item_is (check x e a) ls t n c = absurd (true≢false (sym t.0))
-  item_is verdict ls t n c = absurd t
+      and_from _ _ (target_is t op e ls s.0 s.2 c.target c.regular p.0) (and_from _ _ s.1 (data_is (here ls) e s.3 c.data_alone p.1))
+  item_is (table x len) ls t c = absurd t
+  item_is begin ls t c = absurd t
+  item_is (check x e a) ls t c = absurd (true≢false (sym t.0))
+  item_is verdict ls t c = absurd t
 
-  regular_item : (s : PlainStmt) (ls : List Loop) → IsInner false 0 s → is_regular s ≡ true → Clear u (stands s ls) → IsRegularItem u s ls
-  regular_item s ls t n c = record {
+  suited_item : (s : PlainStmt) (ls : List Loop) → IsInner false 0 s → Clear u (stands s ls) → IsSuitedItem u s ls
+  suited_item s ls t c = record {
     once = c.once;
     known = c.known;
     free = c.free;
     few = few_item s ls c.shallow c.few;
-    affine = item_is s ls t n c;
+    affine = item_is s ls t c;
     fits = c.fits;
     literals = c.literals;
   }
 
   mutual
-    stmt_regular : (s : PlainStmt) (ls : List Loop) → IsInner false 0 s → is_regular s ≡ true → AllByRecursion (Clear u) (items s ls []) → StmtRegular u s ls
-    stmt_regular (loop x lo rel hi body) ls t n c =
-        (regular_item (loop x lo rel hi body) ls t n c.0, all_regular body (record { name = x; lo = lo; rel = rel; hi = hi } ∷ ls) t.4 n c.1)
-    stmt_regular (choice ts first other) ls t n c =
-        let m = and_parts (all_are_regular first) (all_are_regular other) n in (
-          regular_item (choice ts first other) ls t n c.0,
-          all_regular first ls t.1 m.0 (all_front (Clear u) (items_all first ls []) (items_all other ls []) c.1),
-          all_regular other ls t.2 m.1 (all_back (Clear u) (items_all first ls []) (items_all other ls []) c.1),
-        )
-    stmt_regular (assign t op e) ls s n c = regular_item (assign t op e) ls s n c.0
-    stmt_regular (table x len) ls t n c = absurd t
-    stmt_regular begin ls t n c = absurd t
-    stmt_regular (check x e a) ls t n c = absurd (true≢false (sym t.0))
-    stmt_regular verdict ls t n c = absurd t
+    stmt_suited : (s : PlainStmt) (ls : List Loop) → IsInner false 0 s → AllByRecursion (Clear u) (items s ls []) → StmtSuited u s ls
+    stmt_suited (loop x lo rel hi body) ls t c =
+        (suited_item (loop x lo rel hi body) ls t c.0, all_suited body (record { name = x; lo = lo; rel = rel; hi = hi } ∷ ls) t.4 c.1)
+    stmt_suited (choice ts first other) ls t c = (
+      suited_item (choice ts first other) ls t c.0,
+      all_suited first ls t.1 (all_front (Clear u) (items_all first ls []) (items_all other ls []) c.1),
+      all_suited other ls t.2 (all_back (Clear u) (items_all first ls []) (items_all other ls []) c.1),
+    )
+    stmt_suited (assign t op e) ls s c = suited_item (assign t op e) ls s c.0
+    stmt_suited (table x len) ls t c = absurd t
+    stmt_suited begin ls t c = absurd t
+    stmt_suited (check x e a) ls t c = absurd (true≢false (sym t.0))
+    stmt_suited verdict ls t c = absurd t
 
-    all_regular : (ss : PlainStmts) (ls : List Loop) → AreInner false 0 ss → all_are_regular ss ≡ true → AllByRecursion (Clear u) (items_all ss ls []) → AllRegular u ss ls
-    all_regular no_stmts ls t n c = tt
-    all_regular (more_stmts s ss) ls t n c =
-        let m = and_parts (is_regular s) (all_are_regular ss) n in (
-          stmt_regular s ls t.0 m.0 (all_front (Clear u) (items s ls []) (items_all ss ls (tables_after s [])) c),
-          all_regular ss ls t.1 m.1
-              (subst (λ ts. AllByRecursion (Clear u) (items_all ss ls ts)) (tables_same s t.0 []) (all_back (Clear u) (items s ls []) (items_all ss ls (tables_after s [])) c)),
-        )
+    all_suited : (ss : PlainStmts) (ls : List Loop) → AreInner false 0 ss → AllByRecursion (Clear u) (items_all ss ls []) → AllSuited u ss ls
+    all_suited no_stmts ls t c = tt
+    all_suited (more_stmts s ss) ls t c = (
+      stmt_suited s ls t.0 (all_front (Clear u) (items s ls []) (items_all ss ls (tables_after s [])) c),
+      all_suited ss ls t.1
+          (subst (λ ts. AllByRecursion (Clear u) (items_all ss ls ts)) (tables_same s t.0 []) (all_back (Clear u) (items s ls []) (items_all ss ls (tables_after s [])) c)),
+    )
 
 -- ---- the head
 
@@ -214,8 +250,8 @@ free_words : (ws : List (Word × ℕ)) → list_any (λ w. is_reserved w.0) ws �
 free_words [] h = tt
 free_words (w ∷ ws) h = (let q : (is_reserved w.0 ≡ false) × (list_any (λ w. is_reserved w.0) ws ≡ false) = or_parts _ _ h in (q.0, free_words ws q.1))
 
-pub accepted_regular : (u : PlainUnit) → IsAcceptedSource u → all_are_regular u.body ≡ true → IsRegular u
-accepted_regular u h n =
+pub accepted_suited : (u : PlainUnit) → IsAcceptedSource u → IsSuited u
+accepted_suited u h =
     let c : Unrefused u = unrefused u h.refused_nowhere in
     let arrays = c.few_arrays in
     let same = same_count u.params in
@@ -234,5 +270,5 @@ accepted_regular u h n =
       small = c.small.head;
       narrow = c.narrow.head;
       positive = c.positive;
-      body = all_regular u u.body [] h.tree.body n c.items;
+      body = all_suited u u.body [] h.tree.body c.items;
     }

@@ -14,7 +14,7 @@ use Rattle.acceptance.specs.Limits.{int_count, array_count, Excess, depth, reads
 use Rattle.acceptance.specs.Trees.{IsInner}
 use Rattle.c_tree.specs.declared.refusal.Counted.{Counted}
 use Rattle.c_tree.specs.declared.refusal.Counted.TheVariants.{Parameters, Arrays, Depth, Reads}
-use Rattle.acceptance.specs.Sources.{at_loop, assigns_data, target_holds, is_const_array, reserved_name, not_affine, coefficient_too_large, interval_too_wide, write_to_const, item_of, judged, refusal}
+use Rattle.acceptance.specs.Sources.{at_loop, assigns_data, target_holds, is_const_array, reserved_name, not_affine, coefficient_too_large, interval_too_wide, write_to_const, are_indexed, assigned_cells_hold, bad_index_array, writes_regular, irregular_write, item_of, judged, refusal}
 
 -- ---- nowhere
 
@@ -85,6 +85,8 @@ pub record Clear (u : PlainUnit) (i : Item) : Type 0 where
   pub fits : exprs_fit (fits_dimensions (dimensions (scope_at u i))) i.stmt ≡ true
   pub literals : exprs_fit literals_fit i.stmt ≡ true
   pub target : target_holds (λ x. is_const_array u.params x || (is_int u.params x || is_loop i.loops x)) i.stmt ≡ false
+  pub indexed : assigned_cells_hold (are_indexed u.params) i.stmt ≡ true
+  pub regular : writes_regular i.stmt ≡ true
 
 module _ (u : PlainUnit) where
   abbrev Never : Condition → List Item → Type 0
@@ -92,9 +94,9 @@ module _ (u : PlainUnit) where
 
   together : (xs : List Item) → Never (name_twice u) xs → Never (name_unknown u) xs → Never (reserved_name u) xs →
       AllByRecursion (λ i. depth i ≤ 6) xs → AllByRecursion (λ (i : Item). reads_of i.stmt ≤ 16) xs →
-      Never (not_affine u) xs → Never (interval_too_wide u) xs → Never (wrong_dimensions u) xs → Never (write_to_const u) xs → Never (bad_literal u) xs → AllByRecursion (Clear u) xs
-  together [] a b c d e f g h k m = tt
-  together (x ∷ xs) a b c d e f g h k m =
+      Never (not_affine u) xs → Never (interval_too_wide u) xs → Never (wrong_dimensions u) xs → Never (write_to_const u) xs → Never (bad_literal u) xs → Never (bad_index_array u) xs → Never (irregular_write u) xs → AllByRecursion (Clear u) xs
+  together [] a b c d e f g h k m n o = tt
+  together (x ∷ xs) a b c d e f g h k m n o =
       let sc = scope_at u x in
       let affine = not-false (item_parts_hold (is_affine sc) sc x.stmt && assigns_data sc x.stmt) f.0 in
       let fits = not-false (exprs_fit (fits_dimensions (dimensions sc)) x.stmt && names_fit sc x.stmt) h.0 in (
@@ -110,8 +112,10 @@ module _ (u : PlainUnit) where
           fits = (and_parts (exprs_fit (fits_dimensions (dimensions sc)) x.stmt) (names_fit sc x.stmt) fits).0;
           literals = not-false (exprs_fit literals_fit x.stmt) m.0;
           target = k.0;
+          indexed = not-false (assigned_cells_hold (are_indexed u.params) x.stmt) n.0;
+          regular = not-false (writes_regular x.stmt) o.0;
         },
-        together xs a.1 b.1 c.1 d.1 e.1 f.1 g.1 h.1 k.1 m.1,
+        together xs a.1 b.1 c.1 d.1 e.1 f.1 g.1 h.1 k.1 m.1 n.1 o.1,
       )
 
   pub record Unrefused : Type 0 where
@@ -139,6 +143,8 @@ module _ (u : PlainUnit) where
       let dims = nowhere u (wrong_dimensions u) (none 9 13 (least_item u (wrong_dimensions u)) refl) in
       let target = nowhere u (write_to_const u) (none 10 14 (least_item u (write_to_const u)) refl) in
       let literals = nowhere u (bad_literal u) (none 12 16 (least_item u (bad_literal u)) refl) in
+      let indexed = nowhere u (bad_index_array u) (none 11 15 (least_item u (bad_index_array u)) refl) in
+      let regular = nowhere u (irregular_write u) (none 13 17 (least_item u (irregular_write u)) refl) in
       let xs = items_all u.body [] [] in
       record {
         once = once;
@@ -154,7 +160,7 @@ module _ (u : PlainUnit) where
         items = together xs once.inside known.inside free.inside
             (each_under Depth 6 depth 1 xs (excess 3 (first_over Depth 6 depth 1 xs) refl))
             (each_under Reads 16 (λ i. reads_of i.stmt) 1 xs (excess 5 (first_over Reads 16 (λ i. reads_of i.stmt) 1 xs) refl))
-            affine.inside narrow.inside dims.inside target.inside literals.inside;
+            affine.inside narrow.inside dims.inside target.inside literals.inside indexed.inside regular.inside;
       }
 
 -- ---- the items of parts

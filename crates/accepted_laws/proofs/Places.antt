@@ -8,18 +8,20 @@ use Rattle.c_tree.specs.declared.expr.UnOp.TheVariants.{Neg, Inv}
 use Rattle.c_tree.specs.declared.expr.BinOp.{BinOp}
 use Rattle.c_tree.specs.declared.expr.BinOp.TheVariants.{Add, Sub, Mul, And, Xor, Or}
 use Rattle.instrumentation.specs.Body.{full}
-use Rattle.instrumentation.specs.Guarded.{own_words}
+use Rattle.instrumentation.specs.Names.{number_in}
+use Rattle.instrumentation.specs.Pieces.{table_words}
+use Rattle.instrumentation.specs.Guarded.{arrays_with_extents, array_names}
 use Rattle.acceptance.specs.Items.{Loop, Scope, scope_of, is_loop, is_int, is_param, is_scalar, is_known, is_signed_name}
-use Rattle.acceptance.specs.Head.{list_of, uses_known}
+use Rattle.acceptance.specs.Head.{list_of, uses_known, all_use_known}
 use Rattle.acceptance.specs.Affine.{has_name, is_affine_un, is_affine_bin, is_affine}
 use Rattle.acceptance.specs.Printed.{dimensions, fits_dimensions, all_fit_dimensions, has_good_side, literals_fit, is_signed_un, is_signed_op, tests_fit}
-use Rattle.acceptance_laws.proofs.Expressions.{IsWordAt, IsIndex, AreIndices, IsCellAt, IsData, IsTarget}
+use Rattle.acceptance_laws.proofs.Expressions.{IsWordAt, IsIndex, AreIndices, IsCellAt, IsSubscript, AreReadable, IsReadAt, IsValue, IsTarget, indices_readable, signed_known}
 use Rattle.acceptance_laws.proofs.Statements.{AreTests}
 use Rattle.acceptance_laws.proofs.Fine.{inside}
-use Rattle.acceptance_laws.proofs.TextWords.{scalar_append}
-use Rattle.acceptance_laws.proofs.Units.{head_of}
+use Rattle.acceptance_laws.proofs.TextWords.{has_front}
+use Rattle.acceptance_laws.proofs.Units.{words_of_text, head_of}
 use Rattle.acceptance.specs.Parts.{has_signed}
-use Rattle.accepted_laws.specs.Regular.{all_affine, are_subscripts, is_data, tests_affine, is_target, AreRanked}
+use Rattle.accepted_laws.specs.Suited.{all_affine, are_subscripts, is_subscript, all_readable, are_readable, is_data, tests_affine, is_target, AreRanked}
 use Rattle.acceptance.specs.Trees.{is_assigning}
 use Rattle.accepted_laws.proofs.Dimensions.{param_array, array_has, has_array}
 
@@ -46,21 +48,28 @@ assigning_side Xor e h = refl
 assigning_side Or e h = refl
 assigning_side _ e h = absurd (true≢false (sym h))
 
-target_data : (sd : Scope) (t : PlainExpr) → IsTarget sd t → IsData sd t
-target_data sd (var x) h = h
-target_data sd (cell x at) h = h
-target_data sd _ h = absurd h
+target_value : (sd : Scope) (t : PlainExpr) → IsTarget sd t → IsValue sd t
+target_value sd (var x) h = h
+target_value sd (cell x at) h = record { array = h.array; rank = h.rank; subscripts = indices_readable sd at h.subscripts }
+target_value sd _ h = absurd h
 
-module _ (u : PlainUnit) (plain : u.wides ≡ []) (ranked : AreRanked u.params) (few : ℕ) (ls : List Loop) where
+-- No name in scope is one of the tables.
+abbrev pub Untabled : PlainUnit → List Loop → List Word → Type 0
+Untabled u ls ts = (x : Word) → is_known (scope_of u ls []) x ≡ true → is_among ts x ≡ false
+
+module _ (u : PlainUnit) (plain : u.wides ≡ []) (ranked : AreRanked u.params) (few : ℕ) (ts : List Word) (ls : List Loop) (untabled : Untabled u ls ts) where
   abbrev source_here : Scope
   source_here = scope_of u ls []
 
   abbrev text_here : Scope
-  text_here = inside (head_of u.params u.words few) ls
+  text_here = inside (head_of u.params u.words few u.body ts) ls
+
+  same_dimensions : (x : Word) → is_known source_here x ≡ true → dimensions text_here x ≡ dimensions source_here x
+  same_dimensions x k = rw (untabled x k) refl
 
   pub affine_index : (bound : Bool) (e : PlainExpr) → is_affine source_here e ≡ true → fits_dimensions (dimensions source_here) e ≡ true → IsIndex text_here bound e
   affine_index bound (lit n) h d = tt
-  affine_index bound (var x) h d = record { signed = h; flat = eqb-true _ _ d }
+  affine_index bound (var x) h d = record { signed = h; flat = same_dimensions x (signed_known source_here x h) ∙ eqb-true _ _ d }
   affine_index bound (un op a) h d =
       let p : (is_affine_un op ≡ true) × (is_affine source_here a ≡ true) = and_parts _ _ h in
       (affine_un_signed op p.0, affine_index bound a p.1 d)
@@ -89,12 +98,45 @@ module _ (u : PlainUnit) (plain : u.wides ≡ []) (ranked : AreRanked u.params) 
   subscripts_some no_exprs h = absurd (true≢false (sym h))
   subscripts_some (more_exprs e es) h = omega arith
 
-  pub cell_here : (x : Word) (at : PlainExprs) → are_subscripts source_here at ≡ true → fits_dimensions (dimensions source_here) (cell x at) ≡ true → IsCellAt text_here x at
-  cell_here x at h d =
+  cell_known : (x : Word) (at : PlainExprs) → uses_known source_here (cell x at) ≡ true → is_known source_here x ≡ true
+  cell_known x at k = (let p : (is_known source_here x ≡ true) × (all_use_known source_here at ≡ true) = and_parts _ _ k in p.0)
+
+  pub cell_here : (x : Word) (at : PlainExprs) → are_subscripts source_here at ≡ true → uses_known source_here (cell x at) ≡ true → fits_dimensions (dimensions source_here) (cell x at) ≡ true → IsCellAt text_here x at
+  cell_here x at h k d =
       let f : (nat_eq (dimensions source_here x) (length (list_of at)) ≡ true) × (all_fit_dimensions (dimensions source_here) at ≡ true) = and_parts _ _ d in
       let rank : dimensions source_here x ≡ length (list_of at) = eqb-true _ _ f.0 in
       let some : 1 ≤ length (list_of at) = subscripts_some at h in
-      record { array = has_array u.params x (omega arith); rank = rank; subscripts = subscripts_indices at h f.1 }
+      record { array = has_array u.params x (omega arith); rank = same_dimensions x (cell_known x at k) ∙ rank; subscripts = subscripts_indices at h f.1 }
+
+  -- a subscript of a read
+  subscript_here : (e : PlainExpr) → is_subscript source_here e ≡ true → uses_known source_here e ≡ true → fits_dimensions (dimensions source_here) e ≡ true → IsSubscript text_here e
+  subscript_here (cell x at) h k d = cell_here x at h k d
+  subscript_here (lit n) h k d = affine_index false (lit n) h d
+  subscript_here (var x) h k d = affine_index false (var x) h d
+  subscript_here (un op a) h k d = affine_index false (un op a) h d
+  subscript_here (bin op a b) h k d = affine_index false (bin op a b) h d
+  subscript_here _ h k d = absurd (true≢false (sym h))
+
+  all_subscripts_here : (es : PlainExprs) → all_readable source_here es ≡ true → all_use_known source_here es ≡ true → all_fit_dimensions (dimensions source_here) es ≡ true → AreReadable text_here es
+  all_subscripts_here no_exprs h k d = tt
+  all_subscripts_here (more_exprs e es) h k d =
+      let p : (is_subscript source_here e ≡ true) × (all_readable source_here es ≡ true) = and_parts _ _ h in
+      let q : (uses_known source_here e ≡ true) × (all_use_known source_here es ≡ true) = and_parts _ _ k in
+      let f : (fits_dimensions (dimensions source_here) e ≡ true) × (all_fit_dimensions (dimensions source_here) es ≡ true) = and_parts _ _ d in
+      (subscript_here e p.0 q.0 f.0, all_subscripts_here es p.1 q.1 f.1)
+
+  readable_all : (es : PlainExprs) → are_readable source_here es ≡ true → (all_readable source_here es ≡ true) × (1 ≤ length (list_of es))
+  readable_all no_exprs h = absurd (true≢false (sym h))
+  readable_all (more_exprs e es) h = (h, omega arith)
+
+  read_here : (x : Word) (at : PlainExprs) → are_readable source_here at ≡ true → uses_known source_here (cell x at) ≡ true → fits_dimensions (dimensions source_here) (cell x at) ≡ true → IsReadAt text_here x at
+  read_here x at h k d =
+      let f : (nat_eq (dimensions source_here x) (length (list_of at)) ≡ true) × (all_fit_dimensions (dimensions source_here) at ≡ true) = and_parts _ _ d in
+      let q : (is_known source_here x ≡ true) × (all_use_known source_here at ≡ true) = and_parts _ _ k in
+      let rank : dimensions source_here x ≡ length (list_of at) = eqb-true _ _ f.0 in
+      let a : (all_readable source_here at ≡ true) × (1 ≤ length (list_of at)) = readable_all at h in
+      let some : 1 ≤ length (list_of at) = a.1 in
+      record { array = has_array u.params x (omega arith); rank = same_dimensions x q.0 ∙ rank; subscripts = all_subscripts_here at a.0 q.1 f.1 }
 
   -- a name that is known, isn't signed and has no dimensions is a scalar
   scalar_here : (x : Word) → is_known source_here x ≡ true → is_signed_name source_here x ≡ false → dimensions source_here x ≡ 0 → is_scalar u.words x ≡ true
@@ -112,10 +154,13 @@ module _ (u : PlainUnit) (plain : u.wides ≡ []) (ranked : AreRanked u.params) 
       scalar a true c d e f g h = absurd (true≢false f)
       scalar a b c true e f g h = absurd (true≢false g)
 
+  front_scalar : (x : Word) → is_scalar u.words x ≡ true → is_scalar (words_of_text u.params u.words few u.body) x ≡ true
+  front_scalar x h = has_front u.words few (table_words (number_in (array_names u.params)) u.body (arrays_with_extents u.params)) x h
+
   word_here : (x : Word) → is_known source_here x ≡ true → is_signed_name source_here x ≡ false → nat_eq (dimensions source_here x) 0 ≡ true → IsWordAt text_here x
   word_here x k s d =
       let flat : dimensions source_here x ≡ 0 = eqb-true _ _ d in
-      record { declared = scalar_append u.words (own_words few) x ∙ or_left _ (is_scalar (own_words few) x) (scalar_here x k s flat); unsigned = s; flat = flat }
+      record { declared = front_scalar x (scalar_here x k s flat); unsigned = s; flat = same_dimensions x k ∙ flat }
 
   -- ---- data
 
@@ -126,10 +171,10 @@ module _ (u : PlainUnit) (plain : u.wides ≡ []) (ranked : AreRanked u.params) 
       let r : (e ≡ true) × (f ≡ true) = and_parts e f k in
       ((p.0, q.0, r.0), p.1, q.1, r.1)
 
-  pub data_here : (e : PlainExpr) → is_data source_here e ≡ true → uses_known source_here e ≡ true → fits_dimensions (dimensions source_here) e ≡ true → literals_fit e ≡ true → IsData text_here e
+  pub data_here : (e : PlainExpr) → is_data source_here e ≡ true → uses_known source_here e ≡ true → fits_dimensions (dimensions source_here) e ≡ true → literals_fit e ≡ true → IsValue text_here e
   data_here (lit n) h k d l = tt
   data_here (var x) h k d l = word_here x k (not_true _ h) d
-  data_here (cell x at) h k d l = cell_here x at h d
+  data_here (cell x at) h k d l = read_here x at h k d
   data_here (un op a) h k d l = data_here a h k d l
   data_here (bin op a b) h k d l =
       let p : (is_data source_here a ≡ true) × (is_data source_here b ≡ true) = and_parts _ _ h in
@@ -156,12 +201,12 @@ module _ (u : PlainUnit) (plain : u.wides ≡ []) (ranked : AreRanked u.params) 
 
   pub target_here : (t : PlainExpr) → is_target source_here t ≡ true → uses_known source_here t ≡ true → fits_dimensions (dimensions source_here) t ≡ true → IsTarget text_here t
   target_here (var x) h k d = word_here x k (not_true _ h) d
-  target_here (cell x at) h k d = cell_here x at h d
+  target_here (cell x at) h k d = cell_here x at h k d
   target_here _ h k d = absurd (true≢false (sym h))
 
-  pub full_here : (t : PlainExpr) (op : Option BinOp) (e : PlainExpr) → is_assigning op ≡ true → IsTarget text_here t → IsData text_here e → IsData text_here (full t op e)
+  pub full_here : (t : PlainExpr) (op : Option BinOp) (e : PlainExpr) → is_assigning op ≡ true → IsTarget text_here t → IsValue text_here e → IsValue text_here (full t op e)
   full_here t None e o h g = g
-  full_here t (Some op) e o h g = (assigning_side op e o, target_data text_here t h, g)
+  full_here t (Some op) e o h g = (assigning_side op e o, target_value text_here t h, g)
 
   pub tests_here : (ts : List PlainTest) → tests_affine source_here ts ≡ true → tests_fit (fits_dimensions (dimensions source_here)) ts ≡ true → AreTests text_here ts
   tests_here [] h d = tt

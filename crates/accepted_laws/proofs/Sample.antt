@@ -1,4 +1,4 @@
--- The sample is of the grammar, no refusal names it, and so it is regular: each fact is computed.
+-- The sample is of the grammar, no refusal names it, and so it is suited: each fact is computed.
 use Rattle.std.proofs.Common.{◌≡◌, None, refl, arith, codes, false}
 use Rattle.std.proofs.lemmas.Int.{ints}
 use Rattle.c_tree.specs.Plain.{Word}
@@ -6,11 +6,11 @@ use Rattle.instrumentation.specs.Guarded.{guarded}
 use Rattle.acceptance.specs.Printed.{IsAcceptedPrinted}
 use Rattle.acceptance.specs.Sources.{refusal}
 use Rattle.acceptance.specs.Trees.{IsNameIn, IsSourceTree, IsPrintedTree}
-use Rattle.accepted_laws.specs.Regular.{IsRegular}
+use Rattle.accepted_laws.specs.Suited.{IsSuited}
 use Rattle.accepted_laws.specs.Sample.{source}
-use Rattle.accepted_laws.proofs.Regular.{regular_accepted}
-use Rattle.accepted_laws.proofs.TextTrees.{regular_tree}
-use Rattle.accepted_laws.proofs.Accepted.{accepted_regular}
+use Rattle.accepted_laws.proofs.Suited.{suited_accepted}
+use Rattle.accepted_laws.proofs.TextTrees.{suited_tree}
+use Rattle.accepted_laws.proofs.Accepted.{accepted_suited}
 
 pub unrefused : refusal source ≡ None
 unrefused = refl
@@ -80,11 +80,11 @@ tree = record {
   low = record { stmts = omega arith; exprs = omega arith; extents = omega arith };
 }
 
-pub regular : IsRegular source
-regular = accepted_regular source (record { tree = tree; refused_nowhere = unrefused }) refl
+pub suited : IsSuited source
+suited = accepted_suited source (record { tree = tree; refused_nowhere = unrefused })
 
 pub sample_accepted : IsAcceptedPrinted (guarded source)
-sample_accepted = regular_accepted source regular tree
+sample_accepted = suited_accepted source suited tree
 
 pub sample_printed : IsPrintedTree (guarded source)
-sample_printed = regular_tree source regular tree
+sample_printed = suited_tree source suited tree

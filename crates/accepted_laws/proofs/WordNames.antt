@@ -7,7 +7,7 @@ use Rattle.std.proofs.lemmas.Bool.{and_from, and_parts, or_left, or_right}
 use Rattle.std.proofs.lemmas.Fmt.{decimal_is_IsNumeral, length-decimal-le}
 use Rattle.c_tree.specs.Plain.{Word}
 use Rattle.c_tree.specs.Reserved.{is_letter, is_digit, is_word_byte, is_word}
-use Rattle.instrumentation.specs.Names.{register, result, count, definition_total, use_total, coordinate, pass_variable, active, counter, function_name}
+use Rattle.instrumentation.specs.Names.{register, result, count, definition_total, use_total, coordinate, pass_variable, active, counter, written, index_word, current, counts, function_name}
 use Rattle.acceptance.specs.Trees.{IsNameIn}
 
 pub loosen : (x : Word) → IsNameIn false x → IsNameIn true x
@@ -45,6 +45,22 @@ coordinate_name j h = (let s = decimal_short j h in record { word = decimal_fine
 pub variable_name : (j : ℕ) → j < 2 ^ 64 → IsNameIn true (pass_variable j)
 unfolding pass_variable
 variable_name j h = (let s = decimal_short j h in record { word = decimal_fine j h; free = refl; short = omega arith })
+
+pub written_name : (j : ℕ) → j < 2 ^ 64 → IsNameIn true (written j)
+unfolding written
+written_name j h = (let s = decimal_short j h in record { word = decimal_fine j h; free = refl; short = omega arith })
+
+pub index_name : (j : ℕ) → j < 2 ^ 64 → IsNameIn true (index_word j)
+unfolding index_word
+index_name j h = (let s = decimal_short j h in record { word = decimal_fine j h; free = refl; short = omega arith })
+
+pub current_name : (j : ℕ) → j < 2 ^ 64 → IsNameIn true (current j)
+unfolding current
+current_name j h = (let s = decimal_short j h in record { word = decimal_fine j h; free = refl; short = omega arith })
+
+pub counts_name : (j : ℕ) → j < 2 ^ 64 → IsNameIn true (counts j)
+unfolding counts
+counts_name j h = (let s = decimal_short j h in record { word = decimal_fine j h; free = refl; short = omega arith })
 
 pub result_name : IsNameIn true result
 unfolding result

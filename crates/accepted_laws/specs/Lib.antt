@@ -1,5 +1,5 @@
 pub mod Broken
 pub mod Pieces
-pub mod Regular
+pub mod Suited
 pub mod Sample
 pub mod Tall

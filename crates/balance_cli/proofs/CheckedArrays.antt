@@ -59,4 +59,4 @@ printed_below u tree =
 
 pub checks_below : (u : PlainUnit) → IsRunnable u → AllCheckBelow (length (arrays_in u.params)) u.body
 checks_below u (inl source) = sources_below (length (arrays_in u.params)) u.body source.tree.body
-checks_below u (inr printed) = printed_below u printed.0.tree
+checks_below u (inr printed) = printed_below u printed.tree

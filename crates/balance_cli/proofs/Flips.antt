@@ -14,7 +14,7 @@ use Rattle.data_file.specs.Frames.{IsFrameOf, FitsAsFrame, FitsAsMeant, carried}
 use Rattle.fault_plan.specs.Answers.{Answers, IsAnswered}
 use Rattle.fault_plan.specs.Laws.{HasOneAnswer, HasSomeAnswer}
 use Rattle.fault_plan.specs.Meaning.{MeansFlip, Says, named}
-use Rattle.fault_plan.specs.Units.{fault_in}
+use Rattle.c_tree.specs.Flips.{fault_in}
 use Rattle.fault_plan.specs.declared.refusal.FlipRefusal.{FlipRefusal}
 use Rattle.fault_plan.specs.declared.refusal.FlipRefusal.TheVariants.{Syntax, UnknownArray, CellOutside, BitOutside, OutOfMemory}
 use Rattle.frame_laws.specs.Alike.{SayTheSame}

@@ -19,8 +19,8 @@ use Rattle.data_file.specs.Conditions.{IsFrame}
 use Rattle.data_file.specs.Checks.{Fits}
 use Rattle.data_file.specs.Frames.{FitsAsMeant, IsFrameOf}
 use Rattle.fault_plan.specs.Answers.{FitsInputs, MeansFitting as MeansFittingFlip}
-use Rattle.fault_plan.specs.Units.{FlipsFitUnits, FitsUnit, fault_in}
-use Rattle.interp.specs.Flips.{IsFaultFor}
+use Rattle.c_tree.specs.Flips.{fault_in, IsFaultFor}
+use Rattle.fault_plan.specs.Units.{FlipsFitUnits}
 use Rattle.interp.specs.Finished.{inputs_in}
 use Rattle.balance_cli.specs.Flips.{MeansFault, IsFlipWhy}
 use Rattle.balance_cli.specs.Inputs.{IsMeant, IsDataWhy}
@@ -125,7 +125,7 @@ follows_given is now outcome holds = follows_still (give is) now outcome (ends_g
 pub follows_judged : (kind : Wanted) (text seen : List ℕ) (next : PlainUnit → Plan) (before now : Told) (u : PlainUnit) (f : Frame) (outcome : Result Output Stop) → seen ≡ text → IsTaken kind seen u f → Follows (next u) before now outcome → Follows (judge kind text next) before now outcome
 follows_judged kind text seen next before now u f outcome same one rest =
     follows_answered (Accepts kind text) (IsSourceWhy kind text) next before now u outcome
-    (record { is_text = subst (λ (t : List ℕ). IsText t u) same one.is_text; built = one.framed.built }) rest
+    (record { is_text = subst (λ (t : List ℕ). IsText t u) same one.is_text; accepted = one.framed.accepted }) rest
 
 -- one that is refused
 pub follows_refused : (kind : Wanted) (text seen : List ℕ) (next : PlainUnit → Plan) (now : Told) (cause : Stop) → seen ≡ text → IsSourceStop kind seen cause → Follows (judge kind text next) now now (Err cause)
@@ -183,10 +183,7 @@ follows_unflipped kind head f g i text seen next now cause framed own same one =
     follows_stopped (MeansFault head (inputs_in i) text) (IsFlipWhy head (inputs_in i) text) (λ fault. next (Some fault)) now cause
     (unflipped_by head f i text cause framed.of framed.is (subst (λ (t : List ℕ). StopsFor (IsFlipWhyBy f i t) cause) same (subst (λ (h : Frame). StopsFor (IsFlipWhyBy h i seen) cause) own one)))
 
-as_fault : (u : PlainUnit) (i : PlainInputs) (fault : Fault) → FitsUnit u i fault → IsFaultFor u i fault
-as_fault u i fault fits = record { array = fits.array; cell = fits.cell; bit = fits.bit }
-
 -- a flip that is meant by the frame of a unit is a fault of the unit
 pub fault_by : FlipsFitUnits → (kind : Wanted) (head : PlainUnit) (f g : Frame) (text : List ℕ) (i : Inputs) (flip : Flip) → IsFramed kind head f → g ≡ f → Fit head (inputs_in i) → MeansFittingFlip g i text flip → IsFaultFor head (inputs_in i) (fault_in flip)
 fault_by law kind head f g text i flip framed own fit means =
-    as_fault head (inputs_in i) (fault_in flip) ((law head f (inputs_in i) flip framed.of fit).0 (subst (λ (h : Frame). FitsInputs h i flip) own means.fits))
+    (law head f (inputs_in i) flip framed.of fit).0 (subst (λ (h : Frame). FitsInputs h i flip) own means.fits)

@@ -1,6 +1,7 @@
 -- What the code answers of a text that it refuses.
 use Rattle.std.proofs.Common.{◌≡◌, ◌⊎◌, ℕ, ◌≤◌, false, List, length, Option, Some, None, is_some, Result, Ok, Err, MatchResult, sym, ap, subst, ◌∙◌, inl, inr, arith}
 use Rattle.std.proofs.lemmas.Bool.{both_ways}
+use Rattle.acceptance.specs.Printed.{IsAcceptedPrinted}
 use Rattle.acceptance.specs.Trees.{IsSourceTree, IsPrintedTree}
 use Rattle.c_tree.specs.Grammar.Texts.{IsText}
 use Rattle.c_tree.specs.Grammar.Tokens.{is_printed}
@@ -11,22 +12,16 @@ use Rattle.c_tree.specs.declared.refusal.Refusal.{Refusal}
 use Rattle.c_tree.specs.declared.refusal.Refusal.TheVariants as refusal
 use Rattle.c_parser.specs.Answers.{IsRefused}
 use Rattle.command_line.specs.Stops.{stop_of, flip_stop_of}
+use Rattle.data_file.specs.Conditions.{IsFrame}
+use Rattle.data_file.specs.Frames.{IsFrameOf}
 use Rattle.fault_plan.specs.Answers.{Answers}
 use Rattle.fault_plan.specs.declared.refusal.FlipRefusal.{FlipRefusal}
 use Rattle.fault_plan.specs.declared.refusal.FlipRefusal.TheVariants as flip
 use Rattle.kernel_check.specs.Judging.{IsLowest}
-use Rattle.balance_cli.specs.Sources.{Wanted, Regular, AnyText, AnySource, judged_by, IsInPlace, IsUnbuiltUnit, Refuses}
-use Rattle.balance_cli.specs.Stages.{IsFlipWhyBy, IsOwn, IsRefusedFor, IsSourceOf, IsSourceStop, IsTaken, IsUnitWhy}
+use Rattle.balance_cli.specs.Sources.{Wanted, AnyText, AnySource, judged_by, IsInPlace, Refuses}
+use Rattle.balance_cli.specs.Stages.{IsFlipWhyBy, IsFramed, IsOwn, IsRefusedFor, IsSourceOf, IsSourceStop, IsTaken, IsUnitWhy}
 use Rattle.balance_cli.specs.Whys.{StopsFor}
 use Rattle.balance_cli.proofs.TextLaws.{unit_refused}
-
--- what is refused as a source is refused as a regular one
-pub as_regular : (text : List ℕ) (why : Refusal) → IsRefusedFor AnySource text why → IsRefusedFor Regular text why
-as_regular text refusal.OutOfMemory h = tt
-as_regular text (refusal.Lexical byte) h = h
-as_regular text (refusal.Syntax byte) h = h
-as_regular text refusal.Unbuilt h = absurd h.other
-as_regular text _ h = h
 
 -- what the parser refuses is refused, sources and printed texts being wanted
 pub refused_any : (text : List ℕ) (why : Refusal) → length text ≤ 16777216 → IsRefused text why → IsRefusedFor AnyText text why
@@ -66,27 +61,26 @@ refused_by : (kind : Wanted) (text : List ℕ) (why : Refusal) → Refuses kind 
 refused_by kind text refusal.OutOfMemory h = tt
 refused_by kind text why h = h
 
-unbuilt_refusal : (why : Refusal) → why ≡ refusal.Unbuilt → (kind : Wanted) (text : List ℕ) (a : PlainUnit) → IsText text a → IsUnbuiltUnit kind a → IsRefusedFor kind text why
-unbuilt_refusal why same kind text a is other =
-    subst (λ (e : Refusal). IsRefusedFor kind text e) (sym same) (record { unit = a; is_text = is; other = other })
-
-refused_unit : (kind : Wanted) (text : List ℕ) (a : PlainUnit) (why : Refusal) → IsText text a → IsInPlace kind text → IsUnitWhy kind a why → IsRefusedFor kind text why
+refused_unit : (kind : Wanted) (text : List ℕ) (a : PlainUnit) (why : Refusal) → IsText text a → IsInPlace kind text → IsUnitWhy a why → IsRefusedFor kind text why
 refused_unit kind text a why is place (inl same) = own_refusal why same kind text
-refused_unit kind text a why is place (inr (inl low)) = refused_by kind text why (unit_refused kind text why place (record { unit = a; is_text = is; lowest_is = low }))
-refused_unit kind text a why is place (inr (inr unbuilt)) = unbuilt_refusal why unbuilt.0 kind text a is unbuilt.1
+refused_unit kind text a why is place (inr low) = refused_by kind text why (unit_refused kind text why place (record { unit = a; is_text = is; lowest_is = low }))
 
-pub printed_why : (kind : Wanted) (a : PlainUnit) (why : Refusal) → a.version ≡ Some 1 → (why ≡ refusal.OutOfMemory) ⊎ IsLowest a (judged_by (Some 1) a) why → IsUnitWhy kind a why
-printed_why kind a why version (inl same) = inl same
-printed_why kind a why version (inr low) = inr (inl (subst (λ (v : Option ℕ). IsLowest a (judged_by v a) why) (sym version) low))
+pub printed_why : (a : PlainUnit) (why : Refusal) → a.version ≡ Some 1 → (why ≡ refusal.OutOfMemory) ⊎ IsLowest a (judged_by (Some 1) a) why → IsUnitWhy a why
+printed_why a why version (inl same) = inl same
+printed_why a why version (inr low) = inr (subst (λ (v : Option ℕ). IsLowest a (judged_by v a) why) (sym version) low)
 
 -- ---- a unit that is taken
+
+pub own_printed : (u v : PlainUnit) (f : Frame) → v ≡ u → IsAcceptedPrinted u → IsFrameOf u f → IsFrame f → IsOwn AnyText u v f
+own_printed u v f same accepted of is =
+    record { same = same; framed = subst (λ (w : PlainUnit). IsFramed AnyText w f) (sym same) (record { accepted = inr accepted; of = of; is = is }) }
 
 taken_by : (kind : Wanted) (text : List ℕ) (a v : PlainUnit) (f : Frame) → IsText text a → IsOwn kind a v f → IsTaken kind text v f
 taken_by kind text a v f is own = record { is_text = subst (IsText text) (sym own.same) is; framed = own.framed }
 
 -- what is said of the unit of a text is said of the text
 pub of_text : {X : Type 0} (kind : Wanted) (text : List ℕ) (a : PlainUnit) (view : X → PlainUnit) (frame : X → Frame) (r : Result X Refusal) → IsText text a → IsInPlace kind text
-    → MatchResult r (λ x. IsOwn kind a (view x) (frame x)) (IsUnitWhy kind a) → MatchResult r (λ x. IsTaken kind text (view x) (frame x)) (IsRefusedFor kind text)
+    → MatchResult r (λ x. IsOwn kind a (view x) (frame x)) (IsUnitWhy a) → MatchResult r (λ x. IsTaken kind text (view x) (frame x)) (IsRefusedFor kind text)
 of_text kind text a view frame (Ok x) is place own = taken_by kind text a (view x) (frame x) is own
 of_text kind text a view frame (Err why) is place refused = refused_unit kind text a why is place refused
 
@@ -94,7 +88,6 @@ of_text kind text a view frame (Err why) is place refused = refused_unit kind te
 
 pub stop_by : (kind : Wanted) (text : List ℕ) (why : Refusal) → IsRefusedFor kind text why → IsSourceStop kind text (stop_of why)
 stop_by kind text refusal.OutOfMemory h = tt
-stop_by kind text refusal.Unbuilt h = h
 stop_by kind text (refusal.Lexical byte) h = h
 stop_by kind text (refusal.Syntax byte) h = h
 stop_by kind text _ h = h

@@ -3,7 +3,6 @@ use Rattle.std.proofs.Common.{◌≡◌, ℕ, suc, Bool, List, [], ◌∷◌, le
 use Rattle.std.specs.Borrow.{Bor}
 use Rattle.std.specs.Prelude.{IfSome}
 use Rattle.acceptance.specs.Runnable.{IsRunnable}
-use Rattle.built_forms.specs.Built.{BuiltMakeNoTable}
 use Rattle.c_tree.specs.Arrays.{Array, Memory, arrays_of, vars_of, words_from}
 use Rattle.c_tree.specs.Fault.{Fault as RunFault, upset_of}
 use Rattle.c_tree.specs.Inputs.{PlainInputs, memory_for}
@@ -20,10 +19,9 @@ use Rattle.c_tree.specs.declared.run.Verdict.TheVariants.{Plain, Balanced, Fault
 use Rattle.data_file.specs.Conditions.{NamesBelow, IsEndOf}
 use Rattle.data_file.specs.Frames.{AreArrays, IsFrameOf}
 use Rattle.instrumentation.specs.Guarded.{guarded}
-use Rattle.fault_plan.specs.Units.{fault_in}
 use Rattle.interp.specs.Finished.{verdict_in, IsEnded}
-use Rattle.interp.specs.Flips.{IsFaultFor}
-use Rattle.balance_cli.specs.Sources.{AnyText, IsBuilt}
+use Rattle.c_tree.specs.Flips.{fault_in, IsFaultFor}
+use Rattle.balance_cli.specs.Sources.{AnyText, IsTakenUnit}
 use Rattle.balance_cli.proofs.CheckedArrays.{checks_below}
 use Rattle.balance_cli.proofs.Named.{AllCheckBelow, Names, NamesIn, exec_all_names}
 
@@ -73,10 +71,9 @@ ends_of f u i fault e form of is =
       names = subst (λ n. NamesBelow n e.verdict) count (names_below (length sc.arrays) e.verdict (subst (Names (length sc.arrays)) (sym is.verdict) named));
     }
 
--- each unit that is built is one that the interpreter runs
-pub built_runs : BuiltMakeNoTable → (u : PlainUnit) → IsBuilt AnyText u → IsRunnable u
-built_runs law u (inl source) = inl source.accepted
-built_runs law u (inr printed) = inr (printed.accepted, law u printed.plain)
+-- each unit that is taken is one that the interpreter runs
+pub taken_runs : (u : PlainUnit) → IsTakenUnit AnyText u → IsRunnable u
+taken_runs u accepted = accepted
 
 -- the frame of a source is that of its instrumented unit
 pub guarded_frame : (source unit : PlainUnit) (f : Frame) → unit ≡ guarded source → IsFrameOf source f → IsFrameOf unit f

@@ -1,6 +1,6 @@
 -- What the crates below say makes each plan sound: its questions are decided, and its texts are there.
 use Rattle.std.proofs.Common.{◌≡◌, ◌⊎◌, ℕ, List, true, length, Option, Some, None, inl, inr, refl, sym, ◌∙◌, ap}
-use Rattle.acceptance.specs.Sources.{IsAcceptedSource, all_are_regular}
+use Rattle.acceptance.specs.Sources.{IsAcceptedSource}
 use Rattle.c_tree.specs.Fault.{Fault}
 use Rattle.c_tree.specs.Inputs.{PlainInputs}
 use Rattle.c_tree.specs.Grammar.Texts.{IsText}
@@ -22,14 +22,14 @@ use Rattle.command_line.specs.Orders.{Order, print, run_file, attempt, report}
 use Rattle.command_line.specs.Statuses.{status_of}
 use Rattle.command_line.specs.declared.outcome.Finish.TheVariants.{Done}
 use Rattle.command_line.specs.declared.outcome.Output.{Output}
-use Rattle.source_laws.specs.Laws.{AcceptedArePrinted, AcceptedStoreNothing, IsRegularSource}
+use Rattle.source_laws.specs.Laws.{AcceptedArePrinted, AcceptedStoreNothing}
 use Rattle.flip_laws.specs.FaultyRuns.{AcceptedTellOfFaults}
 use Rattle.balance_cli.specs.Inputs.{IsMeant}
 use Rattle.balance_cli.specs.Plans.{Plan, on_flip, plan_of, running, trying}
 use Rattle.balance_cli.specs.Printed.{IsPrinted}
 use Rattle.balance_cli.specs.Reports.{IsReported}
 use Rattle.balance_cli.specs.Runs.{finish_of, IsRun, IsTried}
-use Rattle.balance_cli.specs.Sources.{Wanted, Regular, AnyText, AnySource, IsBuilt, Accepts, Refuses, IsSourceWhy}
+use Rattle.balance_cli.specs.Sources.{Wanted, AnyText, AnySource, IsTakenUnit, Accepts, Refuses, IsSourceWhy}
 use Rattle.balance_cli.specs.Whys.{Why, of_source, of_data, of_flip, stop_for}
 use Rattle.balance_cli.proofs.Endings.{IsDecided, IsGiven, IsSound}
 use Rattle.balance_cli.proofs.Flips.{FlipLaws, flip_decided}
@@ -47,22 +47,22 @@ pub record Laws : Type 0 where
   pub faults : AcceptedTellOfFaults
   pub accepted : AcceptedArePrinted
   pub stores : AcceptedStoreNothing
-  pub printed : (u : PlainUnit) → IsAcceptedSource u → all_are_regular u.body ≡ true → IsText (layout (guarded u)) (guarded u)
+  pub printed : (u : PlainUnit) → IsAcceptedSource u → IsText (layout (guarded u)) (guarded u)
 
 -- each unit that is run has a frame
-framed : Laws → (u : PlainUnit) → IsBuilt AnyText u → HasFrame u
-framed laws u (inl source) = laws.source_frames u source.accepted
-framed laws u (inr printed) = laws.printed_frames u printed.accepted
+framed : Laws → (u : PlainUnit) → IsTakenUnit AnyText u → HasFrame u
+framed laws u (inl source) = laws.source_frames u source
+framed laws u (inr printed) = laws.printed_frames u printed
 
 -- ---- the last stages
 
-printed_text : Laws → (source : PlainUnit) → IsRegularSource source → (output : Output) × IsPrinted source output
+printed_text : Laws → (source : PlainUnit) → IsAcceptedSource source → (output : Output) × IsPrinted source output
 printed_text laws source form = (
   record { text = layout (guarded source); finish = Done },
   record {
     unit = guarded source;
     text = refl;
-    is_text = laws.printed source form.accepted form.regular;
+    is_text = laws.printed source form;
     head = made_head source (guarded source) refl;
     accepted = laws.accepted source form;
     stores = laws.stores source form;
@@ -117,7 +117,7 @@ run_text unit inputs fault framed =
       record { ended = shown.0; is = shown.1; frame = framed.frame; of = framed.of; text = refl; finish = refl },
     )
 
-tried_text : Laws → (source : PlainUnit) (inputs : PlainInputs) (fault : Option Fault) → IsRegularSource source → HasFrame source → (output : Output) × IsTried source inputs fault output
+tried_text : Laws → (source : PlainUnit) (inputs : PlainInputs) (fault : Option Fault) → IsAcceptedSource source → HasFrame source → (output : Output) × IsTried source inputs fault output
 tried_text laws source inputs fault form framed =
     let r = run.run (guarded source) inputs fault in
     let shown = shown_end r in (
@@ -125,7 +125,7 @@ tried_text laws source inputs fault form framed =
       record {
         unit = guarded source;
         made = refl;
-        is_text = laws.printed source form.accepted form.regular;
+        is_text = laws.printed source form;
         head = made_head source (guarded source) refl;
         accepted = laws.accepted source form;
         stores = laws.stores source form;
@@ -144,15 +144,15 @@ tried_once : (source : PlainUnit) (inputs : PlainInputs) (fault : Option Fault) 
 tried_once source inputs fault o p one two =
     one.finish ∙ ap (λ u. finish_of (run.run u inputs fault).verdict) (one.made ∙ sym two.made) ∙ sym two.finish
 
-printed_given : Laws → (source : PlainUnit) → IsRegularSource source → IsGiven (IsPrinted source)
+printed_given : Laws → (source : PlainUnit) → IsAcceptedSource source → IsGiven (IsPrinted source)
 printed_given laws source form = record { some = printed_text laws source form; same = λ o p one two. one.done ∙ sym two.done }
 
 run_given : (unit : PlainUnit) (inputs : PlainInputs) (fault : Option Fault) → HasFrame unit → IsGiven (IsRun unit inputs fault)
 run_given unit inputs fault framed = record { some = run_text unit inputs fault framed; same = λ o p one two. one.finish ∙ sym two.finish }
 
-tried_given : Laws → (source : PlainUnit) (inputs : PlainInputs) (fault : Option Fault) → IsRegularSource source → IsGiven (IsTried source inputs fault)
+tried_given : Laws → (source : PlainUnit) (inputs : PlainInputs) (fault : Option Fault) → IsAcceptedSource source → IsGiven (IsTried source inputs fault)
 tried_given laws source inputs fault form =
-    record { some = tried_text laws source inputs fault form (laws.source_frames source form.accepted); same = tried_once source inputs fault }
+    record { some = tried_text laws source inputs fault form (laws.source_frames source form); same = tried_once source inputs fault }
 
 report_given : (source : PlainUnit) → IsGiven (IsReported source)
 report_given source = record {
@@ -196,19 +196,19 @@ flip_sound laws (Some name) next unit inputs bytes framed meant more = λ words 
 
 pub plan_is_sound : Laws → (order : Order) → IsSound (plan_of order)
 unfolding IsSound
-plan_is_sound laws (print source) = λ text within. (judged_decided laws.texts Regular text, λ unit is. printed_given laws unit is.built)
+plan_is_sound laws (print source) = λ text within. (judged_decided laws.texts AnySource text, λ unit is. printed_given laws unit is.accepted)
 plan_is_sound laws (run_file file input flip) = λ text within. (
   judged_decided laws.texts AnyText text,
   λ unit is bytes few. (
-    read_decided laws.data_texts unit bytes (framed laws unit is.built),
-    λ inputs meant. flip_sound laws flip running unit inputs bytes (framed laws unit is.built) meant (λ fault. run_given unit inputs fault (framed laws unit is.built)),
+    read_decided laws.data_texts unit bytes (framed laws unit is.accepted),
+    λ inputs meant. flip_sound laws flip running unit inputs bytes (framed laws unit is.accepted) meant (λ fault. run_given unit inputs fault (framed laws unit is.accepted)),
   ),
 )
 plan_is_sound laws (attempt source input flip) = λ text within. (
-  judged_decided laws.texts Regular text,
+  judged_decided laws.texts AnySource text,
   λ unit is bytes few. (
-    read_decided laws.data_texts unit bytes (laws.source_frames unit is.built.accepted),
-    λ inputs meant. flip_sound laws flip trying unit inputs bytes (laws.source_frames unit is.built.accepted) meant (λ fault. tried_given laws unit inputs fault is.built),
+    read_decided laws.data_texts unit bytes (laws.source_frames unit is.accepted),
+    λ inputs meant. flip_sound laws flip trying unit inputs bytes (laws.source_frames unit is.accepted) meant (λ fault. tried_given laws unit inputs fault is.accepted),
   ),
 )
 plan_is_sound laws (report source) = λ text within. (judged_decided laws.texts AnySource text, λ unit is. report_given unit)

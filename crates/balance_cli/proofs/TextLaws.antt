@@ -3,9 +3,8 @@ use Rattle.std.proofs.Common.{◌≡◌, ◌⊎◌, ℕ, Bool, true, false, List
 use Rattle.std.proofs.lemmas.Bool.{both_ways}
 use Rattle.acceptance.specs.Items.{lowest}
 use Rattle.acceptance.specs.Printed.{IsAcceptedPrinted}
-use Rattle.acceptance.specs.Sources.{IsAcceptedSource, all_are_regular, judged}
+use Rattle.acceptance.specs.Sources.{IsAcceptedSource, judged}
 use Rattle.acceptance.specs.Trees.{IsSourceTree, IsPrintedTree}
-use Rattle.built_forms.specs.Signed.{is_plain}
 use Rattle.c_tree.specs.Grammar.Lexemes.{Lexeme}
 use Rattle.c_tree.specs.Grammar.Texts.{IsText, lexemes}
 use Rattle.c_tree.specs.Grammar.Tokens.{AreTokens, StopsAt, is_printed}
@@ -16,7 +15,7 @@ use Rattle.c_tree.specs.declared.refusal.Refusal.TheVariants as refusal
 use Rattle.c_tree.specs.declared.token.Token.{Token}
 use Rattle.c_parser.specs.Answers.{HasNoUnit}
 use Rattle.kernel_check.specs.Judging.{IsLowest, printed_judged}
-use Rattle.balance_cli.specs.Sources.{Wanted, Regular, AnyText, AnySource, judged_by, judged_of, IsBuilt, IsUnbuiltUnit, Accepts, Refuses, IsInPlace, IsUnbuilt, IsRefusedUnit, misplaced}
+use Rattle.balance_cli.specs.Sources.{Wanted, AnyText, AnySource, judged_by, judged_of, IsTakenUnit, Accepts, Refuses, IsInPlace, IsRefusedUnit, misplaced}
 
 -- nothing refuses the unit, or the lowest of these numbers does
 abbrev pub Answer : PlainUnit → List (ℕ × Option ℕ) → Type 0
@@ -64,7 +63,7 @@ refused_by a source printed (Some v) = printed
 pub refused_as : ((a : PlainUnit) → Answer a (judged a)) → ((a : PlainUnit) → Answer a (printed_judged a)) → (a : PlainUnit) → Answer a (judged_of a)
 refused_as source printed a = refused_by a (source a) (printed a) a.version
 
--- ---- units that are built
+-- ---- units that are taken
 
 none_some : (o : Option (ℕ × ℕ)) (p : ℕ × ℕ) → o ≡ None → o ≡ Some p → ⊥
 none_some o p none some = cc
@@ -84,44 +83,27 @@ unrefused_source a h = ap (λ (v : Option ℕ). lowest (judged_by v a)) h.tree.v
 unrefused_printed : (a : PlainUnit) → IsAcceptedPrinted a → lowest (judged_of a) ≡ None
 unrefused_printed a h = ap (λ (v : Option ℕ). lowest (judged_by v a)) h.tree.version ∙ h.refused_nowhere
 
-unrefused : (kind : Wanted) (a : PlainUnit) → IsBuilt kind a → lowest (judged_of a) ≡ None
-unrefused Regular a h = unrefused_source a h.accepted
-unrefused AnyText a (inl h) = unrefused_source a h.accepted
-unrefused AnyText a (inr h) = unrefused_printed a h.accepted
+unrefused : (kind : Wanted) (a : PlainUnit) → IsTakenUnit kind a → lowest (judged_of a) ≡ None
 unrefused AnySource a h = unrefused_source a h
+unrefused AnyText a (inl h) = unrefused_source a h
+unrefused AnyText a (inr h) = unrefused_printed a h
 
 -- the text of a source isn't printed
 unprinted : TextLaws → (text : List ℕ) (a : PlainUnit) → IsText text a → IsAcceptedSource a → is_printed text ≡ true → ⊥
 unprinted laws text a is source printed = no_version a.version source.tree.version (laws.versions text a is ∙ printed)
 
--- a unit isn't both built and not
-built_or_not : (kind : Wanted) (a : PlainUnit) → IsBuilt kind a → IsUnbuiltUnit kind a → ⊥
-built_or_not Regular a h g = both_ways (all_are_regular a.body) g.irregular h.regular
-built_or_not AnyText a (inl h) (inl g) = both_ways (all_are_regular a.body) g.irregular h.regular
-built_or_not AnyText a (inl h) (inr g) = no_one a.version h.accepted.tree.version g.accepted.tree.version
-built_or_not AnyText a (inr h) (inl g) = no_one a.version g.accepted.tree.version h.accepted.tree.version
-built_or_not AnyText a (inr h) (inr g) = both_ways (is_plain a) g.other h.plain
-built_or_not AnySource a h g = g
-
-unbuilt_once : TextLaws → (kind : Wanted) (text : List ℕ) (a : PlainUnit) → Accepts kind text a → IsUnbuilt kind text → ⊥
-unbuilt_once laws kind text a one two =
-    built_or_not kind a one.built (subst (IsUnbuiltUnit kind) (laws.once text two.unit a two.is_text one.is_text) two.other)
-
 refused_once : TextLaws → (kind : Wanted) (text : List ℕ) (a : PlainUnit) (why : Refusal) → Accepts kind text a → IsRefusedUnit text why → ⊥
 refused_once laws kind text a why one two =
     none_some (lowest (judged_of two.unit)) _
-    (ap (λ (b : PlainUnit). lowest (judged_of b)) (laws.once text two.unit a two.is_text one.is_text) ∙ unrefused kind a one.built)
+    (ap (λ (b : PlainUnit). lowest (judged_of b)) (laws.once text two.unit a two.is_text one.is_text) ∙ unrefused kind a one.accepted)
     two.lowest_is.lowest_is
 
 -- a text that is taken isn't refused
 pub judged_once : TextLaws → (kind : Wanted) (text : List ℕ) (a : PlainUnit) (why : Refusal) → Accepts kind text a → Refuses kind text why → ⊥
 judged_once laws kind text a (refusal.Lexical byte) one two = laws.apart text one.is_text.tokens byte one.is_text.are_tokens two
-judged_once laws Regular text a (refusal.Syntax byte) one (inl two) = unprinted laws text a one.is_text one.built.accepted two.printed
-judged_once laws Regular text a (refusal.Syntax byte) one (inr two) = two.1.none a one.is_text
-judged_once laws AnySource text a (refusal.Syntax byte) one (inl two) = unprinted laws text a one.is_text one.built two.printed
+judged_once laws AnySource text a (refusal.Syntax byte) one (inl two) = unprinted laws text a one.is_text one.accepted two.printed
 judged_once laws AnySource text a (refusal.Syntax byte) one (inr two) = two.1.none a one.is_text
 judged_once laws AnyText text a (refusal.Syntax byte) one two = two.none a one.is_text
-judged_once laws kind text a refusal.Unbuilt one two = unbuilt_once laws kind text a one two
 judged_once laws kind text a why one two = refused_once laws kind text a why one two.1
 
 -- ---- each text is taken or refused
@@ -131,35 +113,26 @@ Judged kind text = ((a : PlainUnit) × Accepts kind text a) ⊎ ((why : Refusal)
 
 -- a refusal of a unit carries an item
 pub unit_refused : (kind : Wanted) (text : List ℕ) (why : Refusal) → IsInPlace kind text → IsRefusedUnit text why → Refuses kind text why
-unit_refused kind text refusal.Unbuilt place h = absurd (let no : ⊥ = none_some_item h.lowest_is.item h.lowest_is.carried in no)
 unit_refused kind text (refusal.Lexical byte) place h = absurd (let no : ⊥ = none_some_item h.lowest_is.item h.lowest_is.carried in no)
 unit_refused kind text (refusal.Syntax byte) place h = absurd (let no : ⊥ = none_some_item h.lowest_is.item h.lowest_is.carried in no)
 unit_refused kind text why place h = (place, h)
 
 -- a source of the grammar that no number refuses
-source_judged : (kind : Wanted) (text : List ℕ) (a : PlainUnit) → IsText text a → IsAcceptedSource a → (b : Bool) → all_are_regular a.body ≡ b → Judged kind text
-source_judged Regular text a is accepted true regular = inl (a, record { is_text = is; built = record { accepted = accepted; regular = regular } })
-source_judged Regular text a is accepted false other = inr (refusal.Unbuilt, record { unit = a; is_text = is; other = record { accepted = accepted; irregular = other } })
-source_judged AnyText text a is accepted true regular = inl (a, record { is_text = is; built = inl (record { accepted = accepted; regular = regular }) })
-source_judged AnyText text a is accepted false other = inr (refusal.Unbuilt, record { unit = a; is_text = is; other = inl (record { accepted = accepted; irregular = other }) })
-source_judged AnySource text a is accepted b form = inl (a, record { is_text = is; built = accepted })
-
-printed_judged_so : (text : List ℕ) (a : PlainUnit) → IsText text a → IsAcceptedPrinted a → (b : Bool) → is_plain a ≡ b → Judged AnyText text
-printed_judged_so text a is accepted true plain = inl (a, record { is_text = is; built = inr (record { accepted = accepted; plain = plain }) })
-printed_judged_so text a is accepted false other = inr (refusal.Unbuilt, record { unit = a; is_text = is; other = inr (record { accepted = accepted; other = other }) })
+source_judged : (kind : Wanted) (text : List ℕ) (a : PlainUnit) → IsText text a → IsAcceptedSource a → Judged kind text
+source_judged AnySource text a is accepted = inl (a, record { is_text = is; accepted = accepted })
+source_judged AnyText text a is accepted = inl (a, record { is_text = is; accepted = inl accepted })
 
 -- a printed tree in the place of a source
 no_source : TextLaws → (text : List ℕ) (a : PlainUnit) → IsText text a → IsPrintedTree a → is_printed text ≡ false → ⊥
 no_source laws text a is tree plain = both_ways (is_printed text) plain (sym (laws.versions text a is) ∙ ap is_some tree.version)
 
 printed_judged_by : TextLaws → (kind : Wanted) (text : List ℕ) (a : PlainUnit) → IsText text a → IsInPlace kind text → IsAcceptedPrinted a → Judged kind text
-printed_judged_by laws Regular text a is place accepted = absurd (no_source laws text a is accepted.tree place)
 printed_judged_by laws AnySource text a is place accepted = absurd (no_source laws text a is accepted.tree place)
-printed_judged_by laws AnyText text a is place accepted = printed_judged_so text a is accepted (is_plain a) refl
+printed_judged_by laws AnyText text a is place accepted = inl (a, record { is_text = is; accepted = inr accepted })
 
 unrefused_unit : TextLaws → (kind : Wanted) (text : List ℕ) (a : PlainUnit) → IsText text a → IsInPlace kind text → lowest (judged_of a) ≡ None → IsSourceTree a ⊎ IsPrintedTree a → Judged kind text
 unrefused_unit laws kind text a is place none (inl tree) =
-    source_judged kind text a is (record { tree = tree; refused_nowhere = sym (ap (λ (v : Option ℕ). lowest (judged_by v a)) tree.version) ∙ none }) (all_are_regular a.body) refl
+    source_judged kind text a is (record { tree = tree; refused_nowhere = sym (ap (λ (v : Option ℕ). lowest (judged_by v a)) tree.version) ∙ none })
 unrefused_unit laws kind text a is place none (inr tree) =
     printed_judged_by laws kind text a is place (record { tree = tree; refused_nowhere = sym (ap (λ (v : Option ℕ). lowest (judged_by v a)) tree.version) ∙ none })
 
@@ -171,7 +144,6 @@ without : (text : List ℕ) (ts : List Token) → AreTokens text ts → ((a : Pl
 without text ts are none = record { place = record { tokens = ts; are_tokens = are; place = inl refl }; none = none }
 
 no_unit : (kind : Wanted) (text : List ℕ) → IsInPlace kind text → HasNoUnit text (length text) → Refuses kind text (refusal.Syntax (length text))
-no_unit Regular text place none = inr (place, none)
 no_unit AnyText text place none = none
 no_unit AnySource text place none = inr (place, none)
 
@@ -181,7 +153,6 @@ of_tokens laws kind text place ts are (inr none) = inr (refusal.Syntax (length t
 
 of_kind : TextLaws → (kind : Wanted) (text : List ℕ) (ts : List Token) → AreTokens text ts → (b : Bool) → misplaced kind text ≡ b → Judged kind text
 of_kind laws kind text ts are false place = of_tokens laws kind text place ts are (laws.units text)
-of_kind laws Regular text ts are true printed = inr (refusal.Syntax 0, inl (record { tokens = ts; are_tokens = are; printed = printed; at_start = refl }))
 of_kind laws AnyText text ts are true printed = absurd (let no : ⊥ = cc in no)
 of_kind laws AnySource text ts are true printed = inr (refusal.Syntax 0, inl (record { tokens = ts; are_tokens = are; printed = printed; at_start = refl }))
 

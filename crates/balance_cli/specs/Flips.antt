@@ -8,7 +8,7 @@ use Rattle.c_tree.specs.declared.run.Flip.{Flip}
 use Rattle.data_file.specs.Conditions.{IsFrame}
 use Rattle.data_file.specs.Frames.{IsFrameOf, carried}
 use Rattle.fault_plan.specs.Answers.{IsRefused, MeansFitting}
-use Rattle.fault_plan.specs.Units.{fault_in}
+use Rattle.c_tree.specs.Flips.{fault_in}
 use Rattle.fault_plan.specs.declared.refusal.FlipRefusal.{FlipRefusal}
 use Rattle.balance_cli.specs.Whys.{Why, of_source, of_data, of_flip}
 

@@ -18,7 +18,7 @@ use Rattle.balance_cli.specs.Inputs.{IsMeant, IsDataWhy}
 use Rattle.balance_cli.specs.Printed.{IsPrinted}
 use Rattle.balance_cli.specs.Reports.{IsReported}
 use Rattle.balance_cli.specs.Runs.{IsRun, IsTried}
-use Rattle.balance_cli.specs.Sources.{Wanted, Regular, AnyText, AnySource, Accepts, IsSourceWhy}
+use Rattle.balance_cli.specs.Sources.{Wanted, AnyText, AnySource, Accepts, IsSourceWhy}
 use Rattle.balance_cli.specs.Whys.{Why, stop_for}
 
 pub data Plan : Type 1 where
@@ -64,9 +64,9 @@ abbrev pub on_data : List ℕ → (PlainUnit → PlainInputs → Plan) → Plain
 on_data input next unit = load Data input (λ bytes. read unit bytes (next unit))
 
 abbrev pub plan_of : Order → Plan
-plan_of (print source) = load Source source (λ text. judge Regular text printing)
+plan_of (print source) = load Source source (λ text. judge AnySource text printing)
 plan_of (run_file file input flip) = load File file (λ text. judge AnyText text (on_data input (on_flip flip running)))
-plan_of (attempt source input flip) = load Source source (λ text. judge Regular text (on_data input (on_flip flip trying)))
+plan_of (attempt source input flip) = load Source source (λ text. judge AnySource text (on_data input (on_flip flip trying)))
 plan_of (report source) = load Source source (λ text. judge AnySource text reporting)
 
 -- ---- files, where they are told

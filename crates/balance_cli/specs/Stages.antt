@@ -24,7 +24,7 @@ use Rattle.command_line.specs.declared.outcome.Stop.TheVariants.{ReadFault, TooL
 use Rattle.fault_plan.specs.Answers.{IsRefused as IsRefusedFlip}
 use Rattle.kernel_check.specs.Judging.{IsLowest}
 use Rattle.balance_cli.specs.Plans.{IsFile, IsTooLong}
-use Rattle.balance_cli.specs.Sources.{Wanted, judged_of, IsBuilt, IsUnbuiltUnit, Refuses, IsSourceWhy}
+use Rattle.balance_cli.specs.Sources.{Wanted, judged_of, IsTakenUnit, Refuses, IsSourceWhy}
 use Rattle.balance_cli.specs.Whys.{Why, of_source, of_data, of_flip, StopsFor}
 use Rattle.balance_cli.specs.declared.runnable.Runnable.{Runnable}
 use Rattle.balance_cli.specs.declared.runnable.Runnable.TheVariants as runnable
@@ -53,13 +53,13 @@ pub record IsSourceOf (text : List ℕ) (u : PlainUnit) : Type 0 where
   pub plain : is_printed text ≡ false
   pub tree : IsSourceTree u
 
--- a unit that is built, with its frame
+-- a unit that the command takes, with its frame
 pub record IsFramed (wanted : Wanted) (u : PlainUnit) (f : Frame) : Type 0 where
-  pub built : IsBuilt wanted u
+  pub accepted : IsTakenUnit wanted u
   pub of : IsFrameOf u f
   pub is : IsFrame f
 
--- this unit, which is built, with its frame
+-- this unit, with its frame
 pub record IsOwn (wanted : Wanted) (u v : PlainUnit) (f : Frame) : Type 0 where
   pub same : v ≡ u
   pub framed : IsFramed wanted v f
@@ -79,8 +79,8 @@ frame_of (runnable.Source k) = k.frame
 frame_of (runnable.Printed p) = p.frame
 
 -- why a unit isn't taken
-abbrev pub IsUnitWhy : Wanted → PlainUnit → Refusal → Type 0
-IsUnitWhy wanted u why = (why ≡ refusal.OutOfMemory) ⊎ (IsLowest u (judged_of u) why ⊎ ((why ≡ refusal.Unbuilt) × IsUnbuiltUnit wanted u))
+abbrev pub IsUnitWhy : PlainUnit → Refusal → Type 0
+IsUnitWhy u why = (why ≡ refusal.OutOfMemory) ⊎ IsLowest u (judged_of u) why
 
 -- why a text isn't taken, unless memory is wanting
 abbrev pub IsRefusedFor : Wanted → List ℕ → Refusal → Type 0

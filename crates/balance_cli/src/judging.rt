@@ -4,10 +4,10 @@ ghost use Rattle.std.specs.Prelude.{◌≡◌, ◌≤◌, length, true, false, M
 ghost use Rattle.c_parser.specs.Answers.{IsRefused};
 ghost use Rattle.c_tree.specs.Grammar.Texts.{IsText};
 ghost use Rattle.c_tree.specs.Trees.{unit as tree};
-ghost use Rattle.balance_cli.specs.Sources.{AnySource, AnyText, Regular, at_start as moved};
+ghost use Rattle.balance_cli.specs.Sources.{AnySource, AnyText, at_start as moved};
 ghost use Rattle.balance_cli.specs.Stages.{IsRefusedFor, IsSourceOf, IsSourceStop, IsTaken, frame_of, unit_of};
 
-use crate::checking::{checked_source, regular_source, runnable};
+use crate::checking::{checked_source, runnable};
 use crate::runnable::Runnable;
 use c_parser::parse;
 use c_tree::{Refusal, Unit, is_printed};
@@ -73,16 +73,6 @@ fn source_of(alloc: Global, text: &[u8]) -> Result<Kernel, Refusal>
     }
 }
 
-fn regular_of(alloc: Global, text: &[u8]) -> Result<Kernel, Refusal>
-    requires { length text.now ≤ 16777216 }
-    ensures { MatchResult result (λ k. IsTaken Regular text.now (tree k.unit) k.frame) (IsRefusedFor Regular text.now) }
-{
-    match source_unit(alloc, text) {
-        Ok(unit) => regular_source(alloc, unit),
-        Err(refusal) => Err(refusal),
-    }
-}
-
 fn runnable_of(alloc: Global, text: &[u8]) -> Result<Runnable, Refusal>
     requires { length text.now ≤ 16777216 }
     ensures { MatchResult result (λ r. IsTaken AnyText text.now (unit_of r) (frame_of r)) (IsRefusedFor AnyText text.now) }
@@ -95,7 +85,7 @@ fn runnable_of(alloc: Global, text: &[u8]) -> Result<Runnable, Refusal>
 }
 
 /// The source of a text, where it is accepted.
-pub fn any_source(alloc: Global, text: &[u8]) -> Result<Kernel, Stop>
+pub fn source(alloc: Global, text: &[u8]) -> Result<Kernel, Stop>
     requires { length text.now ≤ 16777216 }
     ensures { MatchResult result (λ k. IsTaken AnySource text.now (tree k.unit) k.frame) (IsSourceStop AnySource text.now) }
 {
@@ -105,18 +95,7 @@ pub fn any_source(alloc: Global, text: &[u8]) -> Result<Kernel, Stop>
     }
 }
 
-/// The source of a text, where it is accepted and no subscript is irregular.
-pub fn source(alloc: Global, text: &[u8]) -> Result<Kernel, Stop>
-    requires { length text.now ≤ 16777216 }
-    ensures { MatchResult result (λ k. IsTaken Regular text.now (tree k.unit) k.frame) (IsSourceStop Regular text.now) }
-{
-    match regular_of(alloc, text) {
-        Ok(kernel) => Ok(kernel),
-        Err(refusal) => Err(Stop::from(refusal)),
-    }
-}
-
-/// The source or printed unit of a text, where it is accepted, and regular or plain.
+/// The source or printed unit of a text, where it is accepted.
 pub fn any_text(alloc: Global, text: &[u8]) -> Result<Runnable, Stop>
     requires { length text.now ≤ 16777216 }
     ensures { MatchResult result (λ r. IsTaken AnyText text.now (unit_of r) (frame_of r)) (IsSourceStop AnyText text.now) }

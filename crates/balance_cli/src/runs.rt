@@ -6,16 +6,14 @@ ghost use Rattle.c_tree.specs.Inputs.{Fit};
 ghost use Rattle.c_tree.specs.Run as runs;
 ghost use Rattle.c_tree.specs.Trees.{unit as unit_in};
 ghost use Rattle.data_file.specs.Conditions.{IsEndOf};
-ghost use Rattle.fault_plan.specs.Units.{fault_in};
+ghost use Rattle.c_tree.specs.Flips.{fault_in, IsFaultFor};
 ghost use Rattle.interp.specs.Finished.{inputs_in, verdict_in, IsEnded};
-ghost use Rattle.interp.specs.Flips.{IsFaultFor};
 ghost use Rattle.balance_cli.specs.Runs.{finish_of as finish_at, IsShown, IsRun, IsTried};
-ghost use Rattle.balance_cli.specs.Sources.{AnyText, Regular};
+ghost use Rattle.balance_cli.specs.Sources.{AnySource, AnyText};
 ghost use Rattle.balance_cli.specs.Stages.{IsFramed, frame_of, unit_of};
 ghost use Rattle.command_line.specs.declared.outcome.Stop.TheVariants.{NoMemory};
 
 use crate::runnable::Runnable;
-use built_forms::built_make_no_table;
 use c_tree::{Ended, Flip, Frame, Inputs, OutOfMemory, Unit, Verdict};
 use command_line::{Finish, Output, Stop};
 use data_file::output;
@@ -77,7 +75,6 @@ pub fn ran(
     requires flip_fits { IfSome flip (λ f. IsFaultFor (unit_of taken.now) (inputs_in inputs.now) (fault_in f.now)) }
     ensures { MatchResult result (IsRun (unit_of taken.now) (inputs_in inputs.now) (option_map (λ f. fault_in f.now) flip.entry)) (λ cause. cause ≡ NoMemory) }
 {
-    built_make_no_table();
     let ended = end_of(alloc, taken.unit(), inputs, flip)?;
     shown(alloc, taken.frame(), &ended)
 }
@@ -89,7 +86,7 @@ pub fn tried(
     inputs: &Inputs,
     flip: Option<&Flip>,
 ) -> Result<Output, Stop>
-    requires framed { IsFramed Regular (unit_in source.now.unit) source.now.frame }
+    requires framed { IsFramed AnySource (unit_in source.now.unit) source.now.frame }
     requires fits { Fit (unit_in source.now.unit) (inputs_in inputs.now) }
     requires flip_fits { IfSome flip (λ f. IsFaultFor (unit_in source.now.unit) (inputs_in inputs.now) (fault_in f.now)) }
     ensures { MatchResult result (IsTried (unit_in source.now.unit) (inputs_in inputs.now) (option_map (λ f. fault_in f.now) flip.entry)) (λ cause. cause ≡ NoMemory) }

@@ -6,19 +6,18 @@ ghost use Rattle.c_tree.specs.Inputs.{Fit};
 ghost use Rattle.c_tree.specs.Trees.{unit as unit_in};
 ghost use Rattle.data_file.specs.Checks.{Fits};
 ghost use Rattle.interp.specs.Finished.{inputs_in};
-ghost use Rattle.source_laws.specs.Laws.{IsRegularSource};
 ghost use Rattle.command_line.specs.Commands.{given, ordered};
 ghost use Rattle.command_line.specs.Orders.{print as print_order, run_file as run_order, attempt as attempt_order, report as report_order};
 ghost use Rattle.balance_cli.specs.Plans.{Follows, on_flip, plan_of, running, trying};
 ghost use Rattle.balance_cli.specs.Printed.{IsPrinted};
 ghost use Rattle.balance_cli.specs.Reports.{IsReported};
-ghost use Rattle.balance_cli.specs.Sources.{AnyText, Regular};
+ghost use Rattle.balance_cli.specs.Sources.{AnySource, AnyText};
 ghost use Rattle.balance_cli.specs.Stages.{IsFramed, IsLoad, frame_of, unit_of};
 ghost use Rattle.command_line.specs.declared.outcome.Stop.TheVariants.{NoMemory};
 
 use crate::faults::read_fault;
 use crate::inputs::read;
-use crate::judging::{any_source, any_text, source as source_in};
+use crate::judging::{any_text, source as source_in};
 use crate::runnable::Runnable;
 use crate::runs::{ran, tried};
 use c_tree::Inputs;
@@ -48,7 +47,7 @@ fn loaded<F: Shelf>(
 }
 
 fn printed(alloc: Global, source: &Kernel) -> Result<Output, Stop>
-    requires { IsRegularSource (unit_in source.now.unit) }
+    requires { IsAcceptedSource (unit_in source.now.unit) }
     ensures { MatchResult result (IsPrinted (unit_in source.now.unit)) (λ cause. cause ≡ NoMemory) }
 {
     instrumented_units_have_texts();
@@ -131,7 +130,7 @@ fn try_flipped<F: Shelf>(
     flip: &str,
     shelf: &mut F,
 ) -> Result<Output, Stop>
-    requires framed { IsFramed Regular (unit_in source.now.unit) source.now.frame }
+    requires framed { IsFramed AnySource (unit_in source.now.unit) source.now.frame }
     requires fits { Fit (unit_in source.now.unit) (inputs_in inputs.now) }
     requires by_frame { Fits source.now.frame inputs.now }
     ensures { Follows (on_flip (Some flip.now) trying (unit_in source.now.unit) (inputs_in inputs.now)) (F.told shelf.old) (F.told shelf.new) result }
@@ -150,7 +149,7 @@ fn try_on<F: Shelf>(
     flip: Option<&str>,
     shelf: &mut F,
 ) -> Result<Output, Stop>
-    requires framed { IsFramed Regular (unit_in source.now.unit) source.now.frame }
+    requires framed { IsFramed AnySource (unit_in source.now.unit) source.now.frame }
     requires fits { Fit (unit_in source.now.unit) (inputs_in inputs.now) }
     requires by_frame { Fits source.now.frame inputs.now }
     ensures { Follows (on_flip (given flip.entry) trying (unit_in source.now.unit) (inputs_in inputs.now)) (F.told shelf.old) (F.told shelf.new) result }
@@ -193,7 +192,7 @@ fn report<F: Shelf>(alloc: Global, source: &str, shelf: &mut F) -> Result<Output
     ensures { Follows (plan_of (report_order source.now)) (F.told shelf.old) (F.told shelf.new) result }
 {
     let text = loaded(alloc, FileWord::Source, source, shelf)?;
-    let kernel = any_source(alloc, text.as_slice())?;
+    let kernel = source_in(alloc, text.as_slice())?;
     reported(alloc, &kernel)
 }
 

@@ -2,6 +2,7 @@ pub mod Accesses
 pub mod Arrays
 pub mod Counted
 pub mod Fault
+pub mod Flips
 pub mod Grammar
 pub mod Inputs
 pub mod Instances

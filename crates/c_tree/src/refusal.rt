@@ -42,9 +42,6 @@ impl fmt::Display for Counted {
 /// the least item at which it holds.
 #[derive(Clone, Copy, Debug, PartialEq, Eq, Error)]
 pub enum Refusal {
-    /// The text has a form that isn't translated yet.
-    #[error("S0 Unbuilt")]
-    Unbuilt,
     /// The text has more than 16,777,216 bytes. It carries how many.
     #[error("S1 TextTooLong")]
     TextTooLong {

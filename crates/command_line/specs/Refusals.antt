@@ -2,7 +2,7 @@
 use Rattle.std.specs.Prelude.{ℕ, List, ◌++◌, codes, decimal}
 use Rattle.c_tree.specs.Counted.{counted_word}
 use Rattle.c_tree.specs.declared.refusal.Refusal.{Refusal}
-use Rattle.c_tree.specs.declared.refusal.Refusal.TheVariants.{Unbuilt, TextTooLong, Lexical, Syntax, NameTwice, NameUnknown, ReservedName, BadRange, TooMany, NotAffine, CoefficientTooLarge, IntervalTooWide, ExtentNotPositive, WrongDimensions, WriteToConst, BadIndexArray, BadLiteral, IrregularWrite, WrongKind, OutOfMemory}
+use Rattle.c_tree.specs.declared.refusal.Refusal.TheVariants.{TextTooLong, Lexical, Syntax, NameTwice, NameUnknown, ReservedName, BadRange, TooMany, NotAffine, CoefficientTooLarge, IntervalTooWide, ExtentNotPositive, WrongDimensions, WriteToConst, BadIndexArray, BadLiteral, IrregularWrite, WrongKind, OutOfMemory}
 
 abbrev pub at_byte : List ℕ → ℕ → List ℕ
 at_byte what byte = what ++ (codes " at byte " ++ decimal byte)
@@ -12,7 +12,6 @@ in_item what item = what ++ (codes " in item " ++ decimal item)
 
 -- its number and name, and where it is found
 abbrev pub refusal_text : Refusal → List ℕ
-refusal_text Unbuilt = codes "S0 Unbuilt"
 refusal_text (TextTooLong length) = codes "S1 TextTooLong"
 refusal_text (Lexical byte) = at_byte (codes "S2 Lexical") byte
 refusal_text (Syntax byte) = at_byte (codes "S3 Syntax") byte

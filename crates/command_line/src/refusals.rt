@@ -23,7 +23,6 @@ pub fn refusal_text(alloc: Global, refusal: Refusal) -> Result<String, AllocErro
     ensures { IfOk result (λ text. string_bytes text ≡ text_of refusal) }
 {
     match refusal {
-        Refusal::Unbuilt => String::from_str(alloc, "S0 Unbuilt"),
         Refusal::TextTooLong { .. } => String::from_str(alloc, "S1 TextTooLong"),
         Refusal::Lexical { byte } => at_byte(alloc, "S2 Lexical", byte),
         Refusal::Syntax { byte } => at_byte(alloc, "S3 Syntax", byte),

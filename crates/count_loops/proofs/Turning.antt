@@ -1,26 +1,31 @@
 -- A pass turns as its source.
-use Rattle.std.proofs.Common.{◌≡◌, ℕ, suc, ◌+◌, ◌-◌, ◌<◌, ◌≤◌, Bool, true, false, cond, List, [], ◌∷◌, length, Option, Some, None, Result, Ok, Err, map, refl, sym, subst, arith}
+use Rattle.std.proofs.Common.{◌≡◌, ℕ, suc, ◌+◌, ◌-◌, ◌<◌, ◌≤◌, Bool, true, false, cond, List, [], ◌∷◌, length, Option, Some, None, Result, Ok, Err, map, refl, sym, ap, ◌∙◌, subst, arith}
 use Rattle.std.specs.Prelude.{IfOk, nat_eq, nat_lt, pos}
-use Rattle.std.proofs.lemmas.Bool.{eqb-false}
+use Rattle.std.proofs.lemmas.Bool.{eqb-true, eqb-false}
 use Rattle.c_tree.specs.Plain.{Word, PlainExpr, lit, var, cell, un, bin, cast, test, umin, umax, least, greatest, widen, big, PlainExprs, no_exprs, more_exprs, PlainStmt, loop, choice, assign, table, begin, check, verdict, PlainStmts, no_stmts, more_stmts, PlainUnit}
-use Rattle.c_tree.specs.Trees.{stmt}
+use Rattle.c_tree.specs.Trees.{stmt, stmts_of}
 use Rattle.c_tree.specs.Values.{Vars}
 use Rattle.c_tree.specs.Arrays.{Array, vars_of}
 use Rattle.c_tree.specs.Instances.{sites, sites_all}
-use Rattle.c_tree.specs.Inputs.{arrays_for}
+use Rattle.c_tree.specs.Inputs.{PlainInputs, arrays_for, Fit, IsSound}
+use Rattle.c_tree.specs.Run.{turns, exec_all}
 use Rattle.c_tree.specs.declared.memory.OutOfMemory.{OutOfMemory}
 use Rattle.c_tree.specs.declared.stmt.Stmt.{Stmt}
 use Rattle.instrumentation.specs.Guarded.{arrays_with_extents}
-use Rattle.instrumentation.specs.Passes.{coordinates_from, cell_piece, write_pieces_all, piece_at}
+use Rattle.instrumentation.specs.Passes.{coordinates_from, cell_piece}
 use Rattle.instrumentation_laws.specs.RegularUnits.{number_for}
+use Rattle.instrumentation_laws.specs.Setting.{inspected_in}
+use Rattle.guard_laws.specs.Forms.{HasForms}
+use Rattle.guard_laws.specs.Guards.{PassesTurnAsSource}
+use Rattle.pass_laws.specs.Going.{GoesTo, Turned}
 use Rattle.pass_laws.specs.Countable.{IsAffine, AreAffine, AllHaveNoCells, IsTarget, IsCountable, AreCountable}
 use Rattle.run_laws.specs.Sources.{HasNoCells}
 use Rattle.sites.specs.Sites.{first_variable}
-use Rattle.source_laws.specs.Laws.{AcceptedAreGuarded, AcceptedAreReady, IsRegularSource}
-use Rattle.unit_builder.specs.Parts.{array_piece, target_in, target_among}
-use Rattle.unit_builder.proofs.PieceTargets.{some_target}
+use Rattle.unit_builder.specs.Parts.{array_piece, target_in, target_among, pass_to, pass_at}
 use Rattle.count_loops.specs.Assignments.{assignment_of}
-use Rattle.count_loops.specs.Passes.{IsStart, pass_of, TurnsAsSource}
+use Rattle.count_loops.specs.Passes.{IsStart, IsUninspected, pass_of, scope_for, TurnsAsSource}
+use Rattle.count_loops.proofs.Counted.{number_at}
+use Rattle.count_loops.proofs.Uninspected.{array_below, uninspected}
 use Rattle.count_loops.specs.declared.start.Start.{Start}
 use Rattle.count_loops.specs.declared.start.Start.TheVariants.{Cell, Write}
 use Rattle.count_loops.proofs.WriteSites.{StoresInto, write_stores}
@@ -77,30 +82,39 @@ module _ (arrays : List Array) (number : Word → ℕ) (x : Word) (at : PlainExp
 
 -- ---- each pass turns
 
--- what holds of the piece of each array holds of that of one
-of_array : (P : List PlainStmt → Type 0) (cells : ℕ → PlainExprs → List PlainStmt) → ((a : ℕ) (es : PlainExprs) → P (cells a es)) → (k a : ℕ) (decls : List (Word × PlainExprs)) → k ≤ a → a < k + length decls → P (array_piece cells a k decls)
-of_array P cells f k a [] from below = absurd (omega arith)
-of_array P cells f k a (x ∷ more) from below = chosen (nat_eq k a) refl (λ later last. of_array P cells f (suc k) a more later last)
+-- what holds of the piece of an array, whatever its extents are, holds of that among all
+of_array : (P : List PlainStmt → Type 0) (cells : ℕ → PlainExprs → List PlainStmt) (k a : ℕ) (decls : List (Word × PlainExprs)) → ((es : PlainExprs) → P (cells a es)) → k ≤ a → a < k + length decls → P (array_piece cells a k decls)
+of_array P cells k a [] f from below = absurd (omega arith)
+of_array P cells k a (x ∷ more) f from below = chosen (nat_eq k a) refl (λ later last. of_array P cells (suc k) a more f later last)
   where
     chosen : (b : Bool) → nat_eq k a ≡ b → (suc k ≤ a → a < suc k + length more → P (array_piece cells a (suc k) more)) → P (cond b (cells k x.1) (array_piece cells a (suc k) more))
-    chosen true same rest = f k x.1
+    chosen true same rest = subst (λ n. P (cells n x.1)) (sym (eqb-true k a same)) (f x.1)
     chosen false other rest = let differs : k ≡ a → ⊥ = eqb-false k a other in rest (omega arith) (omega arith)
 
-module _ (ready : AcceptedAreReady) (guards : AcceptedAreGuarded) (u : PlainUnit) (regular : IsRegularSource u) where
-  cell_turns : (a : ℕ) (es : PlainExprs) → TurnsAsSource u (cell_piece (number_for u) u.body a es)
-  cell_turns a es = λ i fault base s sound place. (guards u regular).turns i fault (record { array = a; at = coordinates_from 0 es }) None base s sound (coordinates_none 0 es) place
+module _ (u : PlainUnit) (turn : PassesTurnAsSource u) (forms : (i : PlainInputs) → Fit u i → HasForms u i) where
+  -- no read of the array has an index cell, where any inputs fit
+  abbrev IsPlain : ℕ → Type 0
+  IsPlain a = (i : PlainInputs) → IsSound u i → inspected_in (number_for u) u.body a ≡ false
 
-  write_turns : (k : ℕ) → StoresInto u.body k → TurnsAsSource u (piece_at (write_pieces_all (number_for u) u.body 0 u.body) k)
-  write_turns k h = λ i fault base s sound place.
-      subst (λ p. TurnsAsSource u p) (sym (some_target (number_for u) u.body k (cell h.name h.at) h.target))
-      (λ i fault base s sound place. (guards u regular).turns i fault (record { array = number_for u h.name; at = h.at }) (Some k) base s sound
-      (targets_none (arrays_for u i.ints) (number_for u) h.name h.at u.body (vars_of u.params i.ints) k (ready u i regular sound).countable.body h.target) place)
-      i fault base s sound place
+  cell_turns : (a : ℕ) (es : PlainExprs) → IsPlain a → TurnsAsSource u (cell_piece (number_for u) u.body a es)
+  cell_turns a es plain = λ i fault base s sound place. turn i fault (record { array = a; at = coordinates_from 0 es }) None base s sound (plain i sound) (coordinates_none 0 es) place
 
-  turns_as_source : (array : ℕ) (start : Start) → IsStart u array start → TurnsAsSource u (pass_of u array start)
-  turns_as_source array Cell there = of_array (TurnsAsSource u) (cell_piece (number_for u) u.body) cell_turns 0 array (arrays_with_extents u.params) (omega arith) (omega arith)
-  turns_as_source array (Write site) there = write_turns (assignment_of u.body site.0) (write_stores u.body 1 (first_variable u) site.0 there.found there.there there.writes)
+  write_turns : (k : ℕ) (name : Word) → StoresInto u.body k name → IsPlain (number_for u name) → TurnsAsSource u (pass_at (number_for u) u.body k)
+  write_turns k name h plain = λ i fault base s sound place.
+      subst (λ t. GoesTo (Turned (turns u i) s) (exec_all (scope_for u i fault) (stmts_of (pass_to (number_for u) u.body k t)) base s)) (sym h.target)
+      (turn i fault (record { array = number_for u name; at = h.at }) (Some k) base s sound (plain i sound)
+      (targets_none (arrays_for u i.ints) (number_for u) name h.at u.body (vars_of u.params i.ints) k (forms i sound.fit).countable.countable h.target) place)
 
-  pub made_turns : (r : Result (List Stmt) OutOfMemory) (array : ℕ) (start : Start) → IsStart u array start → IfOk r (λ made. map stmt made ≡ pass_of u array start) → IfOk r (λ made. TurnsAsSource u (map stmt made))
-  made_turns (Ok made) array start there e = subst (TurnsAsSource u) (sym e) (turns_as_source array start there)
-  made_turns (Err x) array start there e = tt
+  pub turns_as_source : (array : ℕ) (start : Start) → IsUninspected u array → IsStart u array start → TurnsAsSource u (pass_of u array start)
+  turns_as_source array Cell h there =
+      let below = array_below u.params array h.name h.there in
+      of_array (TurnsAsSource u) (cell_piece (number_for u) u.body) 0 array (arrays_with_extents u.params)
+      (λ es. cell_turns array es (λ i sound. uninspected u i.ints array (forms i sound.fit).countable.countable h)) (omega arith) (omega arith)
+  turns_as_source array (Write site) h there =
+      write_turns (assignment_of u.body site.0) there.found.reach.name (write_stores u.body 1 (first_variable u) site.0 there.found there.there there.writes)
+      (λ i sound. ap (λ n. inspected_in (number_for u) u.body n) (number_at (vars_of u.params i.ints) 0 u.params array there.found.reach.name (forms i sound.fit).well_formed.arrays there.named ∙ (let e : 0 + array ≡ array = omega arith in e))
+      ∙ uninspected u i.ints array (forms i sound.fit).countable.countable h)
+
+  pub made_turns : (r : Result (List Stmt) OutOfMemory) (array : ℕ) (start : Start) → IsUninspected u array → IsStart u array start → IfOk r (λ made. map stmt made ≡ pass_of u array start) → IfOk r (λ made. TurnsAsSource u (map stmt made))
+  made_turns (Ok made) array start h there e = subst (TurnsAsSource u) (sym e) (turns_as_source array start h there)
+  made_turns (Err x) array start h there e = tt

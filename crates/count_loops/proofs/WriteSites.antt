@@ -6,7 +6,7 @@ use Rattle.std.proofs.lemmas.Bool.{ltb-true, ltb-false}
 use Rattle.c_tree.specs.Plain.{Word, PlainExpr, lit, var, cell, un, bin, cast, test, umin, umax, least, greatest, widen, big, PlainExprs, no_exprs, more_exprs, PlainStmt, loop, choice, assign, table, begin, check, verdict, PlainStmts, no_stmts, more_stmts}
 use Rattle.c_tree.specs.Instances as instances
 use Rattle.c_tree.specs.declared.expr.BinOp.{BinOp}
-use Rattle.sites.specs.Sites.{Reach, Outer, outer_loop, outer_branch, Site, read_of, reads_in, reads_in_all, accesses_of, placed, count, count_all, loops, loops_all, sites, sites_all}
+use Rattle.sites.specs.Sites.{Reach, Outer, outer_loop, outer_branch, Site, read_of, reads_in, reads_in_all, old_cell, accesses_of, placed, count, count_all, loops, loops_all, sites, sites_all}
 use Rattle.unit_builder.specs.Parts.{target_in, target_among}
 use Rattle.count_loops.specs.Assignments.{repeated, assignments, assignments_all, assignment_of}
 
@@ -40,10 +40,6 @@ placed_pairs : (P : Site → ℕ → Type 0) (n p : ℕ) (os : List Outer) (j : 
     AllByRecursion (λ r. (q : ℕ) → P (let s : Site = record { statement = n; position = q; outers = os; reach = r } in s) j) rs → AllPairs P (placed n p os rs) (repeated j rs)
 placed_pairs P n p os j [] all = tt
 placed_pairs P n p os j (r ∷ rs) all = (all.0 p, placed_pairs P n (suc p) os j rs all.1)
-
-everywhere : (Q : Reach → Type 0) → ((r : Reach) → Q r) → (rs : List Reach) → AllByRecursion Q rs
-everywhere Q f [] = tt
-everywhere Q f (r ∷ rs) = (f r, everywhere Q f rs)
 
 weaker : (Q R : Reach → Type 0) → ((r : Reach) → Q r → R r) → (rs : List Reach) → AllByRecursion Q rs → AllByRecursion R rs
 weaker Q R f [] h = tt
@@ -80,46 +76,43 @@ mutual
 
 -- ---- write sites
 
--- the assignment of number m, the assignments being numbered from j on, stores into a cell
-record IsAt (targets : ℕ → Option PlainExpr) (n j m : ℕ) : Type 0 where
+-- the assignment of number m, the assignments being numbered from j on, stores into a cell of this array
+record IsAt (targets : ℕ → Option PlainExpr) (n j m : ℕ) (array : Word) : Type 0 where
   number : ℕ
   below : number < n
   is : m ≡ j + number
-  name : Word
   at : PlainExprs
-  target : targets number ≡ Some (cell name at)
+  target : targets number ≡ Some (cell array at)
 
 abbrev Stores : (ℕ → Option PlainExpr) → ℕ → ℕ → Site → ℕ → Type 0
-Stores targets n j found m = found.reach.writes ≡ true → IsAt targets n j m
+Stores targets n j found m = found.reach.writes ≡ true → IsAt targets n j m found.reach.name
 
 abbrev joined : ℕ → (ℕ → Option PlainExpr) → (ℕ → Option PlainExpr) → ℕ → Option PlainExpr
 joined n first other m = cond (nat_lt m n) (first m) (other (m - n))
 
-in_first : (n k : ℕ) (first other : ℕ → Option PlainExpr) (j m : ℕ) → IsAt first n j m → IsAt (joined n first other) (n + k) j m
-in_first n k first other j m h = record {
+in_first : (n k : ℕ) (first other : ℕ → Option PlainExpr) (j m : ℕ) (array : Word) → IsAt first n j m array → IsAt (joined n first other) (n + k) j m array
+in_first n k first other j m array h = record {
   number = h.number;
   below = (let b = h.below in omega arith);
   is = h.is;
-  name = h.name;
   at = h.at;
   target = chosen (nat_lt h.number n) refl;
 }
   where
-    chosen : (b : Bool) → nat_lt h.number n ≡ b → cond b (first h.number) (other (h.number - n)) ≡ Some (cell h.name h.at)
+    chosen : (b : Bool) → nat_lt h.number n ≡ b → cond b (first h.number) (other (h.number - n)) ≡ Some (cell array h.at)
     chosen true e = h.target
     chosen false e = let f = ltb-false h.number n e in let g = h.below in absurd (omega arith)
 
-in_other : (n k : ℕ) (first other : ℕ → Option PlainExpr) (j m : ℕ) → IsAt other k (j + n) m → IsAt (joined n first other) (n + k) j m
-in_other n k first other j m h = record {
+in_other : (n k : ℕ) (first other : ℕ → Option PlainExpr) (j m : ℕ) (array : Word) → IsAt other k (j + n) m array → IsAt (joined n first other) (n + k) j m array
+in_other n k first other j m array h = record {
   number = n + h.number;
   below = (let b = h.below in omega arith);
   is = (let e = h.is in omega arith);
-  name = h.name;
   at = h.at;
   target = chosen (nat_lt (n + h.number) n) refl;
 }
   where
-    chosen : (b : Bool) → nat_lt (n + h.number) n ≡ b → cond b (first (n + h.number)) (other ((n + h.number) - n)) ≡ Some (cell h.name h.at)
+    chosen : (b : Bool) → nat_lt (n + h.number) n ≡ b → cond b (first (n + h.number)) (other ((n + h.number) - n)) ≡ Some (cell array h.at)
     chosen true e = let f = ltb-true (n + h.number) n e in absurd (omega arith)
     chosen false e = let g : (n + h.number) - n ≡ h.number = omega arith in ap other g ∙ h.target
 
@@ -127,10 +120,31 @@ only_reads : (targets : ℕ → Option PlainExpr) (n v : ℕ) (os : List Outer) 
 only_reads targets n v os j e =
     placed_pairs (Stores targets 1 j) n 0 os j (reads_in e) (weaker _ _ (λ r read q writes. absurd (let f : true ≡ false = sym writes ∙ read in cc)) (reads_in e) (all_read e))
 
+-- each write is of the target's array
+abbrev IsNamed : Word → Reach → Type 0
+IsNamed x r = r.writes ≡ true → x ≡ r.name
+
+reads_named : (x : Word) (rs : List Reach) → AllRead rs → AllByRecursion (IsNamed x) rs
+reads_named x = weaker _ _ (λ r read writes. absurd (let f : true ≡ false = sym writes ∙ read in cc))
+
+both_named : (x : Word) (rs qs : List Reach) → AllByRecursion (IsNamed x) rs → AllByRecursion (IsNamed x) qs → AllByRecursion (IsNamed x) (rs ++ qs)
+both_named x [] qs g h = h
+both_named x (r ∷ rs) qs g h = (g.0, both_named x rs qs g.1 h)
+
+old_read : (op : Option BinOp) (x : Word) (at : PlainExprs) → AllRead (old_cell op x at)
+old_read None x at = tt
+old_read (Some op) x at = (refl, tt)
+
+named : (x : Word) (at : PlainExprs) (op : Option BinOp) (e : PlainExpr) → AllByRecursion (IsNamed x) (accesses_of (cell x at) op e)
+named x at op e =
+    both_named x (reads_in_all at) _ (reads_named x (reads_in_all at) (every_read at))
+    (both_named x (old_cell op x at) _ (reads_named x (old_cell op x at) (old_read op x at))
+    (both_named x (reads_in e) _ (reads_named x (reads_in e) (all_read e)) ((λ writes. refl), tt)))
+
 assigned : (t : PlainExpr) (op : Option BinOp) (e : PlainExpr) (n v : ℕ) (os : List Outer) (j : ℕ) → AllPairs (Stores (target_in (assign t op e)) 1 j) (placed n 0 os (accesses_of t op e)) (repeated j (accesses_of t op e))
 assigned (cell x at) op e n v os j =
     placed_pairs _ n 0 os j (accesses_of (cell x at) op e)
-    (everywhere _ (λ r q writes. record { number = 0; below = omega arith; is = omega arith; name = x; at = at; target = refl }) (accesses_of (cell x at) op e))
+    (weaker (IsNamed x) _ (λ r h q writes. record { number = 0; below = omega arith; is = omega arith; at = at; target = ap (λ (y : Word). Some (cell y at)) (h writes) }) (accesses_of (cell x at) op e) (named x at op e))
 assigned (lit k) op e n v os j = only_reads _ n v os j e
 assigned (var x) op e n v os j = only_reads _ n v os j e
 assigned (un o a) op e n v os j = only_reads _ n v os j e
@@ -148,8 +162,8 @@ both : (n : ℕ) (first other : ℕ → Option PlainExpr) (us vs : List Site) (x
     AllPairs (Stores first n j) us xs → AllPairs (Stores other k (j + n)) vs ys → AllPairs (Stores (joined n first other) (n + k) j) (us ++ vs) (xs ++ ys)
 both n first other us vs xs ys k j g h =
     joined_pairs (Stores (joined n first other) (n + k) j) us vs xs ys
-    (weaker_pairs (Stores first n j) (Stores (joined n first other) (n + k) j) (λ u x f writes. in_first n k first other j x (f writes)) us xs g)
-    (weaker_pairs (Stores other k (j + n)) (Stores (joined n first other) (n + k) j) (λ u x f writes. in_other n k first other j x (f writes)) vs ys h)
+    (weaker_pairs (Stores first n j) (Stores (joined n first other) (n + k) j) (λ u x f writes. in_first n k first other j x u.reach.name (f writes)) us xs g)
+    (weaker_pairs (Stores other k (j + n)) (Stores (joined n first other) (n + k) j) (λ u x f writes. in_other n k first other j x u.reach.name (f writes)) vs ys h)
 
 mutual
   stored : (s : PlainStmt) (n v : ℕ) (os : List Outer) (j : ℕ) → AllPairs (Stores (target_in s) (instances.sites s) j) (sites s n v os) (assignments s j)
@@ -175,13 +189,12 @@ mutual
       (stored s n v os j)
       (stored_all ss (n + count s) (v + loops s) os (j + instances.sites s))
 
--- the assignment of a site stores into a cell
-pub record StoresInto (body : PlainStmts) (k : ℕ) : Type 0 where
-  pub name : Word
+-- the assignment of a site stores into a cell of this array
+pub record StoresInto (body : PlainStmts) (k : ℕ) (array : Word) : Type 0 where
   pub at : PlainExprs
-  pub target : target_among body k ≡ Some (cell name at)
+  pub target : target_among body k ≡ Some (cell array at)
 
-pub write_stores : (body : PlainStmts) (n v : ℕ) (site : ℕ) (found : Site) → slice_get (sites_all body n v []) site ≡ Some found → found.reach.writes ≡ true → StoresInto body (assignment_of body site)
+pub write_stores : (body : PlainStmts) (n v : ℕ) (site : ℕ) (found : Site) → slice_get (sites_all body n v []) site ≡ Some found → found.reach.writes ≡ true → StoresInto body (assignment_of body site) found.reach.name
 write_stores body n v site found there writes =
     let h = pair_at (Stores (target_among body) (instances.sites_all body) 0) (sites_all body n v []) (assignments_all body 0) site found (stored_all body n v [] 0) there writes in
-    record { name = h.name; at = h.at; target = ap (target_among body) (let e = h.is in let f : assignment_of body site ≡ h.number = omega arith in f) ∙ h.target }
+    record { at = h.at; target = ap (target_among body) (let e = h.is in let f : assignment_of body site ≡ h.number = omega arith in f) ∙ h.target }

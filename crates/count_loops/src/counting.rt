@@ -1,9 +1,9 @@
 //! The pass of one definition.
 
 ghost use Rattle.std.specs.Prelude.{◌≡◌, IfOk, map};
+ghost use Rattle.acceptance.specs.Sources.{IsAcceptedSource};
 ghost use Rattle.c_tree.specs.Trees.{stmt, unit};
-ghost use Rattle.source_laws.specs.Laws.{IsRegularSource};
-ghost use Rattle.count_loops.specs.Passes.{CountsUses, IsStart, TurnsAsSource, pass_of};
+ghost use Rattle.count_loops.specs.Passes.{CountsUses, IsStart, IsUninspected, TurnsAsSource, pass_of};
 ghost use Rattle.unit_builder.specs.Small.{IsSmall};
 
 use crate::numbers::assignment;
@@ -29,10 +29,11 @@ fn pass_text(alloc: Global, source: &Unit, array: usize, start: Start) -> Result
     }
 }
 
-/// The pass of a definition of an array: from the initial cell at the coordinates of the prologue,
-/// or from a write.
+/// The pass of a definition of an array that isn't inspected: from the initial cell at the
+/// coordinates of the prologue, or from a write.
 pub fn pass(alloc: Global, k: &Kernel, array: usize, start: Start) -> Result<Stmts, OutOfMemory>
-    requires regular { IsRegularSource (unit k.now.unit) }
+    requires accepted { IsAcceptedSource (unit k.now.unit) }
+    requires uninspected { IsUninspected (unit k.now.unit) array }
     requires there { IsStart (unit k.now.unit) array start }
     ensures made { IfOk result (λ made. map stmt made ≡ pass_of (unit k.now.unit) array start) }
 
@@ -42,7 +43,7 @@ pub fn pass(alloc: Global, k: &Kernel, array: usize, start: Start) -> Result<Stm
     // And makes as many turns as the source.
     ensures turns { IfOk result (λ made. TurnsAsSource (unit k.now.unit) (map stmt made)) }
 {
-    source_laws::accepted_sources_are_ready();
+    source_laws::accepted_sources_follow();
     source_laws::accepted_sources_are_guarded();
     pass_laws::passes_count();
     unit_builder::accepted_sources_are_small();

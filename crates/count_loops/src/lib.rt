@@ -2,8 +2,10 @@
 #![tactic(auto)]
 
 mod counting;
+mod laws;
 mod numbers;
 mod start;
 
 pub use counting::pass;
+pub use laws::a_gather_has_passes;
 pub use start::Start;

@@ -2,7 +2,7 @@
 
 use crate::made::instrumented;
 use c_tree::Unit;
-use run_tests::texts::{CUBE, SHIFT};
+use run_tests::texts::{CUBE, GATHER, SHIFT};
 
 fn has_words(made: &Unit, wanted: &[(&str, u64)]) -> bool {
     if made.words.len() != wanted.len() {
@@ -54,6 +54,28 @@ fn instruments_two_arrays(rt: HostRuntime) {
         ("bal_w", 0),
         ("bal_c0", 0),
         ("bal_c1", 0),
+    ];
+    assert!(rt; has_words(&made, &words));
+}
+
+/// One inspected array of one dimension.
+#[test]
+fn instruments_a_gather(rt: HostRuntime) {
+    let Ok(made) = instrumented(rt.alloc(), GATHER.as_bytes()) else {
+        panic!(rt; "refused");
+    };
+    let wides = [
+        "bal_k", "bal_def0", "bal_use0", "bal_def1", "bal_use1", "bal_def2", "bal_use2",
+    ];
+    assert!(rt; has_wides(&made, &wides));
+    let words = [
+        ("bal_r0", 0),
+        ("bal_r1", 0),
+        ("bal_w", 0),
+        ("bal_c0", 0),
+        ("bal_c1", 0),
+        ("bal_cx0", 0),
+        ("bal_cw1", 0),
     ];
     assert!(rt; has_words(&made, &words));
 }

@@ -6,7 +6,6 @@ ghost use Rattle.c_tree.specs.Trees.{unit as tree};
 ghost use Rattle.instrumentation.specs.Guarded.{guarded};
 ghost use Rattle.kernel_check.specs.Kernels.{IsKernelOf};
 
-use built_forms::is_built_source;
 use c_tree::{Ended, Refusal, Unit};
 use kernel_check::Kernel;
 use rewrite::{Options, instrument};
@@ -18,11 +17,7 @@ fn made_of(alloc: Global, kernel: &Kernel) -> Result<Unit, Refusal>
     ensures runs { IfOk result (λ made. IsRunnable (tree made)) }
     ensures made { IfOk result (λ made. tree made ≡ guarded (tree kernel.now.unit)) }
 {
-    if is_built_source(kernel.unit()) {
-        Ok(instrument(alloc, kernel, Options { split: false })?)
-    } else {
-        Err(Refusal::Unbuilt)
-    }
+    Ok(instrument(alloc, kernel, Options { split: false })?)
 }
 
 /// The instrumented unit of a text.

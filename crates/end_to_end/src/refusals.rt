@@ -9,7 +9,6 @@ use std::test::Fail;
 fn shows_what_is_refused(rt: HostRuntime) -> Result<(), Fail> {
     let item = 2;
     let lines = [
-        (Refusal::Unbuilt, "S0 Unbuilt"),
         (Refusal::TextTooLong { length: 16777217 }, "S1 TextTooLong"),
         (Refusal::Lexical { byte: 17 }, "S2 Lexical at byte 17"),
         (Refusal::Syntax { byte: 17 }, "S3 Syntax at byte 17"),

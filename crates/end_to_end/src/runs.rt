@@ -2,12 +2,14 @@
 //!
 //! A pass turns as the source, and is made once for each cell and once for each write. So where a source
 //! has t turns and w writes, its instrumented unit has t + t * w turns from `begin` on, and before it the
-//! turns of a walk over the cells of each array, and t more for each cell.
+//! turns of a walk over the cells of each array, and t more for each cell. An array that is read
+//! through an index array has no passes: its tables take 2 * t turns.
 
+use crate::gathers::{CHAIN, COLUMN, PAIRS};
 use crate::made::tried;
 use c_tree::Refusal;
 use run_tests::ends::{Found, has_cells, has_verdict};
-use run_tests::texts::{CUBE, JACOBI, MIX, PRODUCT, SHIFT, TOO_FAR, TRIANGLE, TWICE};
+use run_tests::texts::{CUBE, GATHER, JACOBI, MIX, PRODUCT, SHIFT, TOO_FAR, TRIANGLE, TWICE};
 use std::alloc::Global;
 use std::test::Fail;
 
@@ -18,17 +20,19 @@ struct Row {
     data: &'static str,
     cells: &'static [&'static [u64]],
     totals: &'static [(u128, u128)],
+    tables: &'static [u64],
     accesses: u128,
     prologue_turns: u128,
     body_turns: u128,
 }
 
-const ROWS: [Row; 9] = [
+const ROWS: [Row; 14] = [
     Row {
         source: SHIFT,
         data: "n = 4\nA = 5 0 0 0\n",
         cells: &[&[5, 6, 7, 8]],
         totals: &[(18, 18)],
+        tables: &[],
         accesses: 6,
         prologue_turns: 16,
         body_turns: 12,
@@ -38,6 +42,7 @@ const ROWS: [Row; 9] = [
         data: "n = 1\nA = 5\n",
         cells: &[&[5]],
         totals: &[(0, 0)],
+        tables: &[],
         accesses: 0,
         prologue_turns: 1,
         body_turns: 0,
@@ -47,6 +52,7 @@ const ROWS: [Row; 9] = [
         data: "A = 1\nB = 0 0\n",
         cells: &[&[1], &[1, 1]],
         totals: &[(2, 2), (0, 0)],
+        tables: &[],
         accesses: 4,
         prologue_turns: 9,
         body_turns: 6,
@@ -61,6 +67,7 @@ const ROWS: [Row; 9] = [
             &[1, 2, 3, 4, 5, 6, 7, 8, 9],
         ],
         totals: &[(135, 135), (9, 9), (39, 39)],
+        tables: &[],
         accesses: 108,
         prologue_turns: 1089,
         body_turns: 1092,
@@ -71,6 +78,7 @@ const ROWS: [Row; 9] = [
         data: "n = 3\nA = 1 1 1 1 2 3 1 3 6\n",
         cells: &[&[1, 1, 1, 1, 1, 2, 1, 2, 1]],
         totals: &[(31, 31)],
+        tables: &[],
         accesses: 20,
         prologue_turns: 102,
         body_turns: 60,
@@ -80,6 +88,7 @@ const ROWS: [Row; 9] = [
         data: "t = 3\nn = 2\nA = 4 9\nB = 0 0\n",
         cells: &[&[4, 9], &[0, 0]],
         totals: &[(0, 0), (0, 0)],
+        tables: &[],
         accesses: 0,
         prologue_turns: 16,
         body_turns: 3,
@@ -89,6 +98,7 @@ const ROWS: [Row; 9] = [
         data: "t = 2\nn = 3\nA = 1 0 2\nB = 0 0 0\n",
         cells: &[&[1, 3, 2], &[0, 3, 0]],
         totals: &[(6, 6), (6, 6)],
+        tables: &[],
         accesses: 10,
         prologue_turns: 42,
         body_turns: 30,
@@ -99,6 +109,7 @@ const ROWS: [Row; 9] = [
         data: "n = 2\nA = 0 0 0 0\nB = 1 2 3 4\nC = 0 0\n",
         cells: &[&[2, 0, 3, 0], &[1, 2, 3, 4], &[2, 2]],
         totals: &[(0, 0), (8, 8), (2, 2)],
+        tables: &[],
         accesses: 16,
         prologue_turns: 70,
         body_turns: 54,
@@ -110,9 +121,64 @@ const ROWS: [Row; 9] = [
         data: "n = 2\nA = 1 2 3 4 5 6 7 8 9 10 11 12\nB = 1 2 3\n",
         cells: &[&[1, 3, 6, 4, 8, 6, 7, 4, 9, 6, 11, 9], &[9, 14, 9]],
         totals: &[(8, 8), (5, 5)],
+        tables: &[],
         accesses: 13,
         prologue_turns: 143,
         body_turns: 80,
+    },
+    // t = 2; walks over 2 cells of each array; passes for 4 cells and 2 writes; X is walked twice.
+    Row {
+        source: GATHER,
+        data: "n = 2\nm = 2\nP = 1 1\nX = 10 20\nY = 0 0\n",
+        cells: &[&[1, 1], &[10, 20], &[20, 20]],
+        totals: &[(2, 2), (40, 40), (0, 0)],
+        tables: &[2, 2],
+        accesses: 6,
+        prologue_turns: 18,
+        body_turns: 6,
+    },
+    Row {
+        source: GATHER,
+        data: "n = 3\nm = 2\nP = 0 1 0\nX = 7 9\nY = 0 0 0\n",
+        cells: &[&[0, 1, 0], &[7, 9], &[7, 9, 7]],
+        totals: &[(1, 1), (23, 23), (0, 0)],
+        tables: &[2, 2],
+        accesses: 9,
+        prologue_turns: 32,
+        body_turns: 12,
+    },
+    // t = 2; walks of 2, 2, 2 + 6 and 2 turns; passes for 6 cells and 2 writes.
+    Row {
+        source: PAIRS,
+        data: "n = 2\nP = 1 0\nQ = 2 2\nX = 1 2 3 4 5 6\nY = 0 0\n",
+        cells: &[&[1, 0], &[2, 2], &[1, 2, 3, 4, 5, 6], &[6, 3]],
+        totals: &[(1, 1), (4, 4), (9, 9), (0, 0)],
+        tables: &[6, 6],
+        accesses: 8,
+        prologue_turns: 30,
+        body_turns: 6,
+    },
+    // t = 2; walks of 2 + 4, 3 and 2 turns; passes for 6 cells and 2 writes.
+    Row {
+        source: COLUMN,
+        data: "n = 2\nP = 9 0 9 2\nX = 5 6 7\nY = 0 0\n",
+        cells: &[&[9, 0, 9, 2], &[5, 6, 7], &[5, 7]],
+        totals: &[(2, 2), (12, 12), (0, 0)],
+        tables: &[3, 3],
+        accesses: 6,
+        prologue_turns: 27,
+        body_turns: 6,
+    },
+    // t = 3; walks of 3 and 3 turns; passes for 3 cells. The three writes have no pass.
+    Row {
+        source: CHAIN,
+        data: "n = 3\nP = 0 0 1\nX = 5 0 0\n",
+        cells: &[&[0, 0, 1], &[6, 7, 8]],
+        totals: &[(1, 1), (18, 18)],
+        tables: &[3, 6],
+        accesses: 9,
+        prologue_turns: 21,
+        body_turns: 3,
     },
 ];
 
@@ -123,7 +189,7 @@ fn is_right(alloc: Global, row: &Row) -> Result<bool, Refusal> {
             has_verdict(&ended, Found::Balanced)
                 && has_cells(&ended, row.cells)
                 && ended.totals.as_slice() == row.totals
-                && ended.tables.is_empty()
+                && ended.tables.as_slice() == row.tables
                 && ended.accesses == row.accesses
                 && ended.prologue_turns == row.prologue_turns
                 && ended.body_turns == row.body_turns,
@@ -148,5 +214,16 @@ fn a_store_behind_the_end_is_outside(rt: HostRuntime) -> Result<(), Fail> {
     assert!(rt; has_cells(&ended, &[&[5, 6, 7, 8]]));
     assert!(rt; ended.tables.is_empty());
     assert_eq!(rt; ended.accesses, 7);
+    Ok(())
+}
+
+/// An index behind the end of its dimension ends the run before any cell is read.
+#[test]
+fn an_index_behind_the_end_is_told(rt: HostRuntime) -> Result<(), Fail> {
+    let data = b"n = 2\nm = 2\nP = 1 5\nX = 10 20\nY = 0 0\n";
+    let ended = tried(rt.alloc(), GATHER.as_bytes(), data)?.ok_or("taken")?;
+    assert!(rt; has_verdict(&ended, Found::Index(1)));
+    assert!(rt; has_cells(&ended, &[&[1, 5], &[10, 20], &[0, 0]]));
+    assert_eq!(rt; ended.accesses, 0);
     Ok(())
 }

@@ -1,14 +1,15 @@
-//! What a prologue does.
+//! What tables and a prologue do.
 
-ghost use Rattle.c_tree.specs.Plain.{Word, PlainExprs, PlainStmt, PlainUnit};
 ghost use Rattle.std.specs.Prelude.{ℕ, List};
-ghost use Rattle.source_laws.specs.Laws.{IsRegularSource};
+ghost use Rattle.c_tree.specs.Plain.{PlainExprs, PlainStmt, PlainUnit};
+ghost use Rattle.instrumentation_laws.specs.Kept.{Kept};
+ghost use Rattle.acceptance.specs.Sources.{IsAcceptedSource};
 ghost use Rattle.epilogue.specs.Filling.{Fills};
 
-/// With pieces that count, the prologue of an accepted source without irregular subscripts leaves each definition total at the sum over the initial cells of value times uses, stores into no array, and changes no word of the source.
+/// With pieces that count, the tables and the prologue of an accepted source leave each definition total at the sum over the initial cells of value times uses, store into no array, and change no word of the source.
 pub fn prologues_fill()
-    ensures { (u : PlainUnit) (cells : ℕ → PlainExprs → List PlainStmt) → IsRegularSource u → Fills u cells }
+    ensures { (u : PlainUnit) (kept : Kept) (tables : List PlainStmt) (cells : ℕ → PlainExprs → List PlainStmt) → IsAcceptedSource u → Fills u kept tables cells }
 {
     source_laws::accepted_sources_follow();
-    pass_laws::passes_go_on();
+    instrumentation_laws::kept_prologues_fill();
 }

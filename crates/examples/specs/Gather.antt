@@ -51,6 +51,10 @@ outside_x = two_by (1 ∷ 5 ∷ []) (10 ∷ 20 ∷ [])
 abbrev pub equal_words : PlainInputs
 equal_words = two_by (1 ∷ 1 ∷ []) (20 ∷ 20 ∷ [])
 
+-- n = 3 and m = 2: X[0] is read twice, X[1] once
+abbrev pub three_reads : PlainInputs
+three_reads = inputs (pos 3 ∷ pos 2 ∷ []) ((0 ∷ 1 ∷ 0 ∷ []) ∷ (7 ∷ 9 ∷ []) ∷ (0 ∷ 0 ∷ 0 ∷ []) ∷ [])
+
 -- the uses of an initial cell of X
 abbrev pub uses_of_initial : ℕ → ℕ
 uses_of_initial cell_number = uses (accesses gather (pos 2 ∷ pos 2 ∷ []) (memory_for gather same_cell_twice)) (Initial 1 (pos cell_number ∷ []))
@@ -58,6 +62,15 @@ uses_of_initial cell_number = uses (accesses gather (pos 2 ∷ pos 2 ∷ []) (me
 -- before an access of X by the word r0
 abbrev pub check_index : PlainStmt
 check_index = check r0 (var m) 1
+
+-- the read of X in the instrumented text: the index, its check, and the cell
+abbrev pub read_of_x : List PlainStmt
+read_of_x =
+    set (var r0) (p (var i)) ∷
+    add_word use0 r0 ∷
+    check_index ∷
+    set (var r1) (x (var r0)) ∷
+    add_word use1 r1 ∷ []
 
 abbrev pub printed_gather : PlainUnit
 printed_gather = printed (codes "bal_fn_gather") gather.params (r0 ∷ r1 ∷ w ∷ []) (k ∷ def0 ∷ use0 ∷ def1 ∷ use1 ∷ def2 ∷ use2 ∷ []) (

@@ -1,4 +1,5 @@
 pub mod Broadcast
+pub mod Chase
 pub mod Choices
 pub mod Forms
 pub mod Gather

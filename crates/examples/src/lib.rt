@@ -5,6 +5,7 @@
 pub mod broadcast;
 pub mod choices;
 pub mod gather;
+pub mod inspected;
 pub mod instrumented;
 pub mod jacobi;
 pub mod overlap;

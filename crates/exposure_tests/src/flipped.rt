@@ -1,17 +1,14 @@
 //! The run of the instrumented unit of a source under a flip, of texts.
 
-ghost use Rattle.std.specs.Prelude.{◌≡◌, IfOk, IfSome};
-ghost use Rattle.acceptance.specs.Runnable.{IsRunnable};
+ghost use Rattle.std.specs.Prelude.{IfOk, IfSome};
 ghost use Rattle.c_tree.specs.Inputs.{Fit};
 ghost use Rattle.c_tree.specs.Trees.{unit as tree};
 ghost use Rattle.data_file.specs.Checks.{Fits};
-ghost use Rattle.instrumentation.specs.Guarded.{guarded};
 ghost use Rattle.interp.specs.Finished.{inputs_in};
-ghost use Rattle.interp.specs.Flips.{fault_in, IsFaultFor};
+ghost use Rattle.c_tree.specs.Flips.{fault_in, IsFaultFor};
 ghost use Rattle.kernel_check.specs.Kernels.{IsKernelOf};
 
-use built_forms::is_built_source;
-use c_tree::{Ended, Flip, Inputs, OutOfMemory, Refusal, Unit};
+use c_tree::{Ended, Flip, Inputs, OutOfMemory, Refusal};
 use data_file::{DataRefusal, fits_as_meant, read_data};
 use fault_plan::{flips_fit_units, read_flip};
 use interp::run;
@@ -19,18 +16,6 @@ use kernel_check::Kernel;
 use rewrite::{Options, instrument};
 use run_tests::runs::kernel_of;
 use std::alloc::Global;
-
-fn made_of(alloc: Global, kernel: &Kernel) -> Result<Unit, Refusal>
-    requires { IsKernelOf (tree kernel.now.unit) kernel.now }
-    ensures runs { IfOk result (λ made. IsRunnable (tree made)) }
-    ensures made { IfOk result (λ made. tree made ≡ guarded (tree kernel.now.unit)) }
-{
-    if is_built_source(kernel.unit()) {
-        Ok(instrument(alloc, kernel, Options { split: false })?)
-    } else {
-        Err(Refusal::Unbuilt)
-    }
-}
 
 /// The inputs that a data text means by the head of a source, where it means some.
 fn given(alloc: Global, kernel: &Kernel, data: &[u8]) -> Result<Option<Inputs>, OutOfMemory>
@@ -60,12 +45,17 @@ fn fault_of(kernel: &Kernel, i: &Inputs, text: &[u8]) -> Option<Flip>
     }
 }
 
-fn struck(alloc: Global, kernel: &Kernel, i: &Inputs, flip: &Flip) -> Result<Option<Ended>, Refusal>
+fn struck(
+    alloc: Global,
+    kernel: &Kernel,
+    i: &Inputs,
+    flip: &Flip,
+) -> Result<Option<Ended>, OutOfMemory>
     requires of { IsKernelOf (tree kernel.now.unit) kernel.now }
     requires fits { Fit (tree kernel.now.unit) (inputs_in i.now) }
     requires flip_fits { IsFaultFor (tree kernel.now.unit) (inputs_in i.now) (fault_in flip.now) }
 {
-    let made = made_of(alloc, kernel)?;
+    let made = instrument(alloc, kernel, Options { split: false })?;
     if made.params.len() < 2147483648 {
         Ok(Some(run(alloc, &made, i, Some(flip))?))
     } else {
@@ -84,7 +74,7 @@ pub fn flipped(
     let kernel = kernel_of(alloc, source)?;
     match given(alloc, &kernel, data)? {
         Some(i) => match fault_of(&kernel, &i, flip) {
-            Some(fault) => struck(alloc, &kernel, &i, &fault),
+            Some(fault) => Ok(struck(alloc, &kernel, &i, &fault)?),
             None => Ok(None),
         },
         None => Ok(None),

@@ -2,7 +2,7 @@
 
 use crate::flipped::flipped;
 use c_tree::{Refusal, Verdict};
-use run_tests::texts::{SHIFT, TWICE};
+use run_tests::texts::{GATHER, SHIFT, TWICE};
 use std::alloc::Global;
 use std::test::Fail;
 
@@ -27,7 +27,7 @@ struct Row {
     accesses: &'static [Access],
 }
 
-const ROWS: [Row; 3] = [
+const ROWS: [Row; 4] = [
     Row {
         source: SHIFT,
         data: "n = 4\nA = 5 0 0 0\n",
@@ -59,6 +59,13 @@ const ROWS: [Row; 3] = [
             (0, 1, false),
             (1, 0, true),
         ],
+    },
+    // The array that is read through another.
+    Row {
+        source: GATHER,
+        data: INDEX_DATA,
+        arrays: &[(1, "X", 2), (2, "Y", 2)],
+        accesses: &INDEXED,
     },
 ];
 
@@ -133,6 +140,55 @@ fn flips_are_found_where_they_are_exposed(rt: HostRuntime) -> Result<(), Fail> {
             "{} at its end",
             row.source
         );
+    }
+    Ok(())
+}
+
+const INDEX_DATA: &str = "n = 2\nm = 2\nP = 1 1\nX = 10 20\nY = 0 0\n";
+
+/// Reads of P and X, and a write of Y, twice.
+const INDEXED: [Access; 6] = [
+    (0, 0, false),
+    (1, 1, false),
+    (2, 0, true),
+    (0, 1, false),
+    (1, 1, false),
+    (2, 1, true),
+];
+
+/// Whether a flip of an index array ends so: at a check where it is exposed and leads out of X, with P among the
+/// arrays that differ where it leads to the other cell, and balanced where it isn't exposed.
+fn index_agrees(alloc: Global, cell: u64, bit: u64, place: usize) -> Result<bool, Fail> {
+    let coming = INDEXED.get(place..).ok_or("a place")?;
+    let flip = format!(in alloc; "flip P {cell} {bit} at {place}\n")?;
+    let ended = flipped(
+        alloc,
+        GATHER.as_bytes(),
+        INDEX_DATA.as_bytes(),
+        flip.as_str().as_bytes(),
+    )?
+    .ok_or("taken")?;
+    Ok(match &ended.verdict {
+        Verdict::Index(array) => is_exposed(coming, 0, cell) && bit > 0 && *array == 1,
+        Verdict::Fault(found) => {
+            is_exposed(coming, 0, cell) && bit == 0 && found.as_slice().contains(&0)
+        }
+        Verdict::Balanced => !is_exposed(coming, 0, cell),
+        _ => false,
+    })
+}
+
+#[test]
+fn flips_of_index_arrays_are_told(rt: HostRuntime) -> Result<(), Fail> {
+    for place in 0..=INDEXED.len() {
+        for bit in 0..64 {
+            for cell in [0, 1] {
+                assert!(rt;
+                    index_agrees(rt.alloc(), cell, bit, place)?,
+                    "P {cell} {bit} at {place}"
+                );
+            }
+        }
     }
     Ok(())
 }

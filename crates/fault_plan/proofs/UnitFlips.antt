@@ -1,6 +1,7 @@
 -- The arrays of a unit have the cells that its frame says.
 use Rattle.std.proofs.Common.{◌≡◌, ◌↔◌, ℕ, zero, suc, ◌<◌, List, [], ◌∷◌, length, map, slice_get, ℤ, refl, sym, ap, ◌∙◌, arith}
 use Rattle.c_tree.specs.Arrays.{cell_count, extents_in, arrays_of, vars_of, extents_of}
+use Rattle.c_tree.specs.Flips.{fault_in, IsFaultFor}
 use Rattle.c_tree.specs.Inputs.{PlainInputs}
 use Rattle.c_tree.specs.Plain.{PlainExprs, no_exprs, more_exprs, PlainParam, int_param, array_param, PlainUnit}
 use Rattle.c_tree.specs.declared.affine.Affine.{Affine}
@@ -10,7 +11,6 @@ use Rattle.c_tree.specs.declared.run.Flip.{Flip}
 use Rattle.data_file.specs.Checks.{sum_value, count_in}
 use Rattle.data_file.specs.Frames.{AreExtents, AreArrays, IsFrameOf, carried, FitsFrame}
 use Rattle.fault_plan.specs.Answers.{FitsInputs}
-use Rattle.fault_plan.specs.Units.{fault_in, FitsUnit}
 
 module _ (ps : List PlainParam) (n : ℕ) (ns : List ℤ) (count : length ns ≡ n) where
   same_extents : (es : PlainExprs) (sums : List Affine) → AreExtents ps n es sums → extents_of (vars_of ps ns) es ≡ map (sum_value ns) sums
@@ -36,9 +36,9 @@ module _ (ps : List PlainParam) (n : ℕ) (ns : List ℤ) (count : length ns ≡
   same_cells (array_param x constant extents ∷ rest) (a ∷ arrays) h zero below = ap cell_count (same_extents extents a.extents h.2)
   same_cells (array_param x constant extents ∷ rest) (a ∷ arrays) h (suc k) below = same_cells rest arrays h.3 k (omega arith)
 
-pub flips_fit : (u : PlainUnit) (f : Frame) (i : PlainInputs) (flip : Flip) → IsFrameOf u f → FitsFrame f i → FitsInputs f (carried i) flip ↔ FitsUnit u i (fault_in flip)
+pub flips_fit : (u : PlainUnit) (f : Frame) (i : PlainInputs) (flip : Flip) → IsFrameOf u f → FitsFrame f i → FitsInputs f (carried i) flip ↔ IsFaultFor u i (fault_in flip)
 flips_fit u f i flip is fit = (there, back) where
-  there : FitsInputs f (carried i) flip → FitsUnit u i (fault_in flip)
+  there : FitsInputs f (carried i) flip → IsFaultFor u i (fault_in flip)
   there h =
       let below = h.array in
       let within = h.cell in
@@ -47,7 +47,7 @@ flips_fit u f i flip is fit = (there, back) where
       let cells = same_cells u.params (length f.ints) i.ints fit.rows.values u.params f.arrays is.arrays flip.array below in
       record { array = omega (arith, many, below); cell = omega (arith, cells, within); bit = omega arith }
 
-  back : FitsUnit u i (fault_in flip) → FitsInputs f (carried i) flip
+  back : IsFaultFor u i (fault_in flip) → FitsInputs f (carried i) flip
   back h =
       let inside = h.array in
       let within = h.cell in

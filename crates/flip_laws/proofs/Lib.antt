@@ -1,5 +1,3 @@
-pub mod SourceEnds
-pub mod Determined
 pub mod LeftMemory
 pub mod Unread
 pub mod Steps

@@ -1,27 +1,26 @@
 -- A source's run under a fault that isn't exposed, beside its run without one.
-use Rattle.std.proofs.Common.{◌≡◌, ℕ, suc, zero, ◌<◌, Bool, true, false, cond, ◌&&◌, nat_le, List, [], ◌∷◌, ◌++◌, length, refl, sym, ap, ◌∙◌, subst, arith, Option, Some, None}
+use Rattle.std.proofs.Common.{◌≡◌, ℕ, suc, zero, ◌<◌, Bool, true, false, cond, ◌&&◌, nat_le, List, [], ◌∷◌, ◌++◌, length, refl, sym, ap, ◌∙◌, subst, arith, Option, Some, None, inr}
 use Rattle.std.proofs.lemmas.List.{length-map}
 use Rattle.c_tree.specs.Plain.{PlainUnit}
 use Rattle.c_tree.specs.Arrays.{Array, Memory, words_from, vars_of}
 use Rattle.c_tree.specs.Accesses.{Access, at}
 use Rattle.c_tree.specs.Fault.{Upset, Exposed, inverted, disturbed}
 use Rattle.c_tree.specs.Instances.{accesses, source_output}
-use Rattle.c_tree.specs.Inputs.{PlainInputs, arrays_for, memory_for, IsSound}
+use Rattle.c_tree.specs.Inputs.{PlainInputs, arrays_for, memory_for}
 use Rattle.c_tree.specs.Run.{Event, State, Outcome, goes_on, result, struck_at_end, Ended, run_from}
 use Rattle.balance_laws.specs.Replay.{Replays, left_after, after_access}
 use Rattle.balance_laws.specs.Laws.{HiddenFlip, FlippedMemory}
-use Rattle.run_laws.specs.Laws.{UnitsFollow, RunsThrough}
+use Rattle.run_laws.specs.Laws.{RunsThrough}
 use Rattle.run_laws.specs.Logs.{accesses_in, values_in}
 use Rattle.instrumentation_laws.specs.Setting.{scope_of}
-use Rattle.instrumentation_laws.specs.TextLaws.{EveryTextEnds, EveryTextFollows}
+use Rattle.instrumentation_laws.specs.KeptTexts.{IsQuiet}
 use Rattle.instrumentation_laws.proofs.Steps.{event, access_to}
 use Rattle.instrumentation_laws.proofs.Verdicts.{end_is}
-use Rattle.pass_laws.specs.Laws.{IsReady, UnitsGoOn}
 use Rattle.flip_laws.specs.FaultyRuns.{IsOverwritten, IsOverwrittenIn, inverted_at}
 use Rattle.guard_laws.specs.Guards.{IsExposed}
-use Rattle.flip_laws.proofs.Determined.{IsCalm, Agree, state_of, same_course}
+use Rattle.guard_laws.proofs.Determined.{IsCalm, Agree, state_of, same_course}
 use Rattle.flip_laws.proofs.LeftMemory.{same_words, at_end, overwritten, kept}
-use Rattle.flip_laws.proofs.SourceEnds.{GoesOnTo, source_start, body_run, run_is_body, source_goes}
+use Rattle.guard_laws.proofs.SourceEnds.{GoesOnTo, source_start, body_run, run_is_body}
 
 -- ---- logs
 
@@ -69,7 +68,8 @@ calm_logs list m one two of_one of_two r s pre a cs v w xs ys x y =
     ap (λ (n : Memory). n (at list k).array (at list k).cell) (left_same list m (values_in one) (values_in two) k before) ∙
     sym (s k inside is_read) ∙ ap (λ z. values_in z k) (sym y) ∙ value_here pre d ys
 
-module _ (text_ends : EveryTextEnds) (text_follows : EveryTextFollows) (go_on : UnitsGoOn) (hidden : HiddenFlip) (left : FlippedMemory) (units : UnitsFollow) (u : PlainUnit) (i : PlainInputs) (ready : IsReady u i) (sound : IsSound u i) where
+module _ (hidden : HiddenFlip) (left : FlippedMemory) (u : PlainUnit) (i : PlainInputs) (version : u.version ≡ None) (no_wides : u.wides ≡ []) (through : RunsThrough u i (run_from u i.ints (memory_for u i) None)) (is_index : ℕ → Bool)
+    (quiet : (fault : Option Upset) → IsQuiet is_index (accesses u i.ints (memory_for u i)) fault → GoesOnTo fault (memory_for u i) (accesses u i.ints (memory_for u i)) (body_run u i fault)) where
   abbrev m : Memory
   m = memory_for u i
 
@@ -79,61 +79,64 @@ module _ (text_ends : EveryTextEnds) (text_follows : EveryTextFollows) (go_on : 
   abbrev list : List Access
   list = accesses u i.ints m
 
-  goes : (fault : Option Upset) → GoesOnTo fault m list (body_run u i fault)
-  goes fault = source_goes text_ends text_follows go_on u i ready sound fault
+  calmly : GoesOnTo None m list (body_run u i None)
+  calmly = quiet None tt
 
-  -- the run, from where its body goes on to
-  run_is : (fault : Option Upset) → run_from u i.ints m fault ≡ result false (scope_of arrays [] fault) (goes_on tt (goes fault).to)
-  run_is fault = run_is_body u i fault ready.regular.version ready.regular.no_wides ∙ ap (result false (scope_of arrays [] fault)) (goes fault).goes
+  -- a run, from where its body goes on to
+  run_is : (fault : Option Upset) (g : GoesOnTo fault m list (body_run u i fault)) → run_from u i.ints m fault ≡ result false (scope_of arrays [] fault) (goes_on tt g.to)
+  run_is fault g = run_is_body u i fault version no_wides ∙ ap (result false (scope_of arrays [] fault)) g.goes
 
-  without_log : (run_from u i.ints m None).accesses ≡ (goes None).to.accesses
-  without_log = ap (λ (e : Ended). e.accesses) (run_is None)
+  without_log : (run_from u i.ints m None).accesses ≡ calmly.to.accesses
+  without_log = ap (λ (e : Ended). e.accesses) (run_is None calmly)
 
   -- ---- a fault that no read sees
 
   module _ (x : Upset) (unread : ¬ Exposed list x) where
+    faulty : GoesOnTo (Some x) m list (body_run u i (Some x))
+    faulty = quiet (Some x) (inr unread)
+
     abbrev there : State
-    there = (goes (Some x)).to
+    there = faulty.to
 
-    calm : IsCalm there.accesses (goes None).to.accesses
-    calm = calm_logs list m there.accesses (goes None).to.accesses (goes (Some x)).made (goes None).made
-        (hidden list m (values_in there.accesses) x unread (goes (Some x)).replays) (goes None).replays
+    calm : IsCalm there.accesses calmly.to.accesses
+    calm = calm_logs list m there.accesses calmly.to.accesses faulty.made calmly.made
+        (hidden list m (values_in there.accesses) x unread faulty.replays) calmly.replays
 
-    agree : Agree (goes_on (tt {0}) there) (goes_on (tt {0}) (goes None).to)
+    agree : Agree (goes_on (tt {0}) there) (goes_on (tt {0}) calmly.to)
     agree =
-        subst (λ (o : Outcome (Unit {0})). Agree o (goes_on (tt {0}) (goes None).to)) (goes (Some x)).goes
-        (subst (λ (o : Outcome (Unit {0})). Agree (body_run u i (Some x)) o) (goes None).goes
-        (same_course arrays [] (Some x) None there.accesses (goes None).to.accesses calm u.body (vars_of u.params i.ints) (source_start u i) m refl
-        (ap (λ (o : Outcome (Unit {0})). (state_of o).accesses) (goes (Some x)).goes) (ap (λ (o : Outcome (Unit {0})). (state_of o).accesses) (goes None).goes)))
+        subst (λ (o : Outcome (Unit {0})). Agree o (goes_on (tt {0}) calmly.to)) faulty.goes
+        (subst (λ (o : Outcome (Unit {0})). Agree (body_run u i (Some x)) o) calmly.goes
+        (same_course arrays [] (Some x) None there.accesses calmly.to.accesses calm u.body (vars_of u.params i.ints) (source_start u i) m refl
+        (ap (λ (o : Outcome (Unit {0})). (state_of o).accesses) faulty.goes) (ap (λ (o : Outcome (Unit {0})). (state_of o).accesses) calmly.goes)))
 
-    same_log : (goes None).to.accesses ≡ there.accesses
+    same_log : calmly.to.accesses ≡ there.accesses
     same_log = ap (λ (t : State). t.accesses) agree.3
 
     -- what is left without the fault is the source's output
     output : left_after list (values_in there.accesses) None m (length list) ≡ source_output u i.ints m
     output =
-        let r : RunsThrough u i (run_from u i.ints m None) = units u i ready.source sound.clean in
+        let r : RunsThrough u i (run_from u i.ints m None) = through in
         let log : (run_from u i.ints m None).accesses ≡ there.accesses = without_log ∙ same_log in
-        let long : length list ≡ length there.accesses = ap length (sym (goes (Some x)).made) ∙ length-map there.accesses (λ (e : Event). e.access) in
+        let long : length list ≡ length there.accesses = ap length (sym faulty.made) ∙ length-map there.accesses (λ (e : Event). e.access) in
         ap (left_after list (values_in there.accesses) None m) long ∙ ap (λ (l : List Event). left_after list (values_in l) None m (length l)) (sym log) ∙ r.left
 
     ends_at : (struck_at_end (Some x) there).memory ≡ at_end left list m (values_in there.accesses) x
     ends_at =
-        let long : length there.accesses ≡ length list = sym (length-map there.accesses (λ (e : Event). e.access)) ∙ ap length (goes (Some x)).made in
+        let long : length there.accesses ≡ length list = sym (length-map there.accesses (λ (e : Event). e.access)) ∙ ap length faulty.made in
         ap (λ b. (cond (b && nat_le (length there.accesses) x.place) (record there { memory = inverted x there.memory }) there).memory) agree.1 ∙
         memory_of (nat_le (length there.accesses) x.place) ∙
         ap (λ k. cond (nat_le k x.place) (inverted x there.memory) there.memory) long ∙
-        ap (λ (k : Memory). cond (nat_le (length list) x.place) (inverted x k) k) (goes (Some x)).left
+        ap (λ (k : Memory). cond (nat_le (length list) x.place) (inverted x k) k) faulty.left
       where
         memory_of : (b : Bool) → (cond b (record there { memory = inverted x there.memory }) there).memory ≡ cond b (inverted x there.memory) there.memory
         memory_of true = refl
         memory_of false = refl
 
     arrays_end : (run_from u i.ints m (Some x)).arrays ≡ words_from (at_end left list m (values_in there.accesses) x) 0 arrays
-    arrays_end = ap (λ (e : Ended). e.arrays) (run_is (Some x)) ∙ ap (λ (k : Memory). words_from k 0 arrays) ends_at
+    arrays_end = ap (λ (e : Ended). e.arrays) (run_is (Some x) faulty) ∙ ap (λ (k : Memory). words_from k 0 arrays) ends_at
 
     struck_log : (run_from u i.ints m (Some x)).accesses ≡ there.accesses
-    struck_log = ap (λ (e : Ended). e.accesses) (run_is (Some x)) ∙ ap (λ (t : State). t.accesses) (end_is (Some x) there).1
+    struck_log = ap (λ (e : Ended). e.accesses) (run_is (Some x) faulty) ∙ ap (λ (t : State). t.accesses) (end_is (Some x) there).1
 
     pub unread_events : (run_from u i.ints m (Some x)).accesses ≡ (run_from u i.ints m None).accesses
     unread_events = struck_log ∙ sym (without_log ∙ same_log)
@@ -161,5 +164,5 @@ module _ (text_ends : EveryTextEnds) (text_follows : EveryTextFollows) (go_on : 
   arrays_written (Some x) unread w = written_arrays x unread w
 
   pub arrays_unwritten : (fault : Option Upset) → ¬ IsExposed list fault → ¬ IsOverwrittenIn list fault → (run_from u i.ints m fault).arrays ≡ words_from (inverted_at fault (source_output u i.ints m)) 0 arrays
-  arrays_unwritten None unread none = (units u i ready.source sound.clean).arrays
+  arrays_unwritten None unread none = through.arrays
   arrays_unwritten (Some x) unread none = unwritten_arrays x unread none

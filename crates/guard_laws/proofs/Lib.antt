@@ -1,1 +1,5 @@
+pub mod Determined
+pub mod Begun
+pub mod SourceEnds
+pub mod Uninspected
 pub mod Guarded

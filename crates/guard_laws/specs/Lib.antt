@@ -1,1 +1,3 @@
+pub mod IndexArrays
+pub mod Forms
 pub mod Guards

@@ -1,17 +1,18 @@
--- The instrumented statements of a source whose subscripts are affine: each access once, each total brought up to date.
+-- The instrumented statements of a source: each access once, each total brought up to date, and each index word compared with its extent before the cell that it names is read.
 use Rattle.std.specs.Prelude.{ℕ, ◌+◌, List, [], ◌∷◌, ◌++◌, Option, Some, None, max}
-use Rattle.c_tree.specs.Plain.{Word, PlainExpr, lit, var, cell, un, bin, cast, test, umin, umax, least, greatest, widen, big, PlainExprs, PlainStmt, loop, choice, assign, table, begin, check, verdict, PlainStmts, no_stmts, more_stmts}
+use Rattle.c_tree.specs.Plain.{Word, PlainExpr, lit, var, cell, un, bin, cast, test, umin, umax, least, greatest, widen, big, PlainExprs, no_exprs, more_exprs, PlainStmt, loop, choice, assign, table, begin, check, verdict, PlainStmts, no_stmts, more_stmts}
 use Rattle.c_tree.specs.Trees.{stmts_of}
 use Rattle.c_tree.specs.Instances.{sites, sites_all}
 use Rattle.c_tree.specs.declared.expr.BinOp.{BinOp}
 use Rattle.c_tree.specs.declared.expr.BinOp.TheVariants.{Add, Mul}
+use Rattle.instrumentation.specs.Subscripts.{by_cell, indices_in}
 use Rattle.instrumentation.specs.Names.{register, result, count, definition_total, use_total}
 
--- how many cells an expression reads
+-- how many cells an expression reads, index cells among them
 abbrev pub reads_in : PlainExpr → ℕ
 reads_in (lit n) = 0
 reads_in (var x) = 0
-reads_in (cell x at) = 1
+reads_in (cell x at) = indices_in at + 1
 reads_in (un op a) = reads_in a
 reads_in (bin op a b) = reads_in a + reads_in b
 reads_in (cast a) = reads_in a
@@ -27,27 +28,47 @@ reads_in (big high low) = 0
 abbrev pub load_text : ℕ → Word → PlainExprs → ℕ → List PlainStmt
 load_text a x at j = assign (var (register j)) None (cell x at) ∷ assign (var (use_total a)) (Some Add) (widen (var (register j))) ∷ []
 
+-- the index cells of a cell's subscripts, each read once, into the words from j on
+abbrev pub index_loads : (Word → ℕ) → PlainExprs → ℕ → List PlainStmt
+index_loads number no_exprs j = []
+index_loads number (more_exprs e es) j = by_cell e (λ x at. load_text (number x) x at j ++ index_loads number es (j + 1)) (index_loads number es j)
+
+-- each of these words against the extent of its dimension of array a
+abbrev pub index_checks : ℕ → PlainExprs → PlainExprs → ℕ → List PlainStmt
+index_checks a no_exprs ns j = []
+index_checks a (more_exprs e es) no_exprs j = []
+index_checks a (more_exprs e es) (more_exprs n ns) j = by_cell e (λ x at. check (register j) n a ∷ index_checks a es ns (j + 1)) (index_checks a es ns j)
+
+-- the subscripts with these words in place of the index cells
+abbrev pub by_words : PlainExprs → ℕ → PlainExprs
+by_words no_exprs j = no_exprs
+by_words (more_exprs e es) j = by_cell e (λ x at. more_exprs (var (register j)) (by_words es (j + 1))) (more_exprs e (by_words es j))
+
+-- a read of a cell: first its index cells, then the checks, and last the cell itself
+abbrev pub read_text : (Word → ℕ) → (Word → PlainExprs) → Word → PlainExprs → ℕ → List PlainStmt
+read_text number extents x at j = index_loads number at j ++ (index_checks (number x) at (extents x) j ++ load_text (number x) x (by_words at j) (j + indices_in at))
+
 -- the loads of an expression from left to right, into the words from j on
-abbrev pub loads_text : (Word → ℕ) → PlainExpr → ℕ → List PlainStmt
-loads_text number (lit n) j = []
-loads_text number (var x) j = []
-loads_text number (cell x at) j = load_text (number x) x at j
-loads_text number (un op a) j = loads_text number a j
-loads_text number (bin op a b) j = loads_text number a j ++ loads_text number b (j + reads_in a)
-loads_text number (cast a) j = loads_text number a j
-loads_text number (test rel a b) j = loads_text number a j ++ loads_text number b (j + reads_in a)
-loads_text number (umin a b) j = loads_text number a j ++ loads_text number b (j + reads_in a)
-loads_text number (umax a b) j = loads_text number a j ++ loads_text number b (j + reads_in a)
-loads_text number (least a b) j = []
-loads_text number (greatest a b) j = []
-loads_text number (widen a) j = []
-loads_text number (big high low) j = []
+abbrev pub loads_text : (Word → ℕ) → (Word → PlainExprs) → PlainExpr → ℕ → List PlainStmt
+loads_text number extents (lit n) j = []
+loads_text number extents (var x) j = []
+loads_text number extents (cell x at) j = read_text number extents x at j
+loads_text number extents (un op a) j = loads_text number extents a j
+loads_text number extents (bin op a b) j = loads_text number extents a j ++ loads_text number extents b (j + reads_in a)
+loads_text number extents (cast a) j = loads_text number extents a j
+loads_text number extents (test rel a b) j = loads_text number extents a j ++ loads_text number extents b (j + reads_in a)
+loads_text number extents (umin a b) j = loads_text number extents a j ++ loads_text number extents b (j + reads_in a)
+loads_text number extents (umax a b) j = loads_text number extents a j ++ loads_text number extents b (j + reads_in a)
+loads_text number extents (least a b) j = []
+loads_text number extents (greatest a b) j = []
+loads_text number extents (widen a) j = []
+loads_text number extents (big high low) j = []
 
 -- the expression over the words from j on
 abbrev pub pure : PlainExpr → ℕ → PlainExpr
 pure (lit n) j = lit n
 pure (var x) j = var x
-pure (cell x at) j = var (register j)
+pure (cell x at) j = var (register (j + indices_in at))
 pure (un op a) j = un op (pure a j)
 pure (bin op a b) j = bin op (pure a j) (pure b (j + reads_in a))
 pure (cast a) j = cast (pure a j)
@@ -72,26 +93,26 @@ add_text a = assign (var (definition_total a)) (Some Add) (bin Mul (widen (var r
 abbrev pub store_text : ℕ → List PlainStmt → Word → PlainExprs → PlainExpr → List PlainStmt
 store_text a piece x at e = assign (var result) None e ∷ assign (cell x at) None (var result) ∷ (piece ++ add_text a)
 
-abbrev pub assigned_text : (Word → ℕ) → List PlainStmt → PlainExpr → PlainExpr → List PlainStmt
-assigned_text number piece (var x) e = loads_text number e 0 ++ assign (var x) None (pure e 0) ∷ []
-assigned_text number piece (cell x at) e = loads_text number e 0 ++ store_text (number x) piece x at (pure e 0)
-assigned_text number piece _ e = []
+abbrev pub assigned_text : (Word → ℕ) → (Word → PlainExprs) → List PlainStmt → PlainExpr → PlainExpr → List PlainStmt
+assigned_text number extents piece (var x) e = loads_text number extents e 0 ++ assign (var x) None (pure e 0) ∷ []
+assigned_text number extents piece (cell x at) e = loads_text number extents e 0 ++ store_text (number x) piece x at (pure e 0)
+assigned_text number extents piece _ e = []
 
 -- the instrumented statements, the assignments being numbered in text order from k on; a piece for each number
 abbrev mutual
-  pub instrument : (Word → ℕ) → (ℕ → List PlainStmt) → ℕ → PlainStmt → List PlainStmt
-  instrument number pieces k (loop x lo rel hi body) = loop x lo rel hi (stmts_of (instrument_all number pieces k body)) ∷ []
-  instrument number pieces k (choice ts first other) =
-      choice ts (stmts_of (instrument_all number pieces k first)) (stmts_of (instrument_all number pieces (k + sites_all first) other)) ∷ []
-  instrument number pieces k (assign t op e) = assigned_text number (pieces k) t (full t op e)
-  instrument number pieces k (table x len) = []
-  instrument number pieces k begin = []
-  instrument number pieces k (check x extent a) = []
-  instrument number pieces k verdict = []
+  pub instrument : (Word → ℕ) → (Word → PlainExprs) → (ℕ → List PlainStmt) → ℕ → PlainStmt → List PlainStmt
+  instrument number extents pieces k (loop x lo rel hi body) = loop x lo rel hi (stmts_of (instrument_all number extents pieces k body)) ∷ []
+  instrument number extents pieces k (choice ts first other) =
+      choice ts (stmts_of (instrument_all number extents pieces k first)) (stmts_of (instrument_all number extents pieces (k + sites_all first) other)) ∷ []
+  instrument number extents pieces k (assign t op e) = assigned_text number extents (pieces k) t (full t op e)
+  instrument number extents pieces k (table x len) = []
+  instrument number extents pieces k begin = []
+  instrument number extents pieces k (check x extent a) = []
+  instrument number extents pieces k verdict = []
 
-  pub instrument_all : (Word → ℕ) → (ℕ → List PlainStmt) → ℕ → PlainStmts → List PlainStmt
-  instrument_all number pieces k no_stmts = []
-  instrument_all number pieces k (more_stmts s ss) = instrument number pieces k s ++ instrument_all number pieces (k + sites s) ss
+  pub instrument_all : (Word → ℕ) → (Word → PlainExprs) → (ℕ → List PlainStmt) → ℕ → PlainStmts → List PlainStmt
+  instrument_all number extents pieces k no_stmts = []
+  instrument_all number extents pieces k (more_stmts s ss) = instrument number extents pieces k s ++ instrument_all number extents pieces (k + sites s) ss
 
 -- how many words the loads of one assignment need at most
 abbrev mutual

@@ -1,5 +1,10 @@
 pub mod Body
 pub mod Guarded
+pub mod Inspects
 pub mod Names
 pub mod Passes
+pub mod Pieces
 pub mod Prologue
+pub mod RegularReads
+pub mod Subscripts
+pub mod Tables

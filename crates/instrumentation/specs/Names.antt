@@ -40,6 +40,21 @@ active = codes "bal_c0"
 unfoldable pub counter : Word
 counter = codes "bal_c1"
 
+-- by tables: how many writes of an array were made so far
+unfoldable pub written : ℕ → Word
+written a = numbered (codes "bal_cw") a
+
+-- in a walk: the index cell of this subscript
+unfoldable pub index_word : ℕ → Word
+index_word d = numbered (codes "bal_cx") d
+
+-- the table of current definitions of an array's cells, and that of the counts
+unfoldable pub current : ℕ → Word
+current a = numbered (codes "bal_td") a
+
+unfoldable pub counts : ℕ → Word
+counts a = numbered (codes "bal_tu") a
+
 -- the function
 unfoldable pub function_name : Word → Word
 function_name x = codes "bal_fn_" ++ x

@@ -6,6 +6,7 @@ use Rattle.c_tree.specs.Instances.{sites, sites_all}
 use Rattle.c_tree.specs.declared.expr.Rel.TheVariants.{Eq}
 use Rattle.c_tree.specs.declared.expr.BinOp.TheVariants.{Add}
 use Rattle.instrumentation.specs.Names.{count, coordinate, pass_variable, active, counter}
+use Rattle.instrumentation.specs.Subscripts.{by_cell}
 use Rattle.instrumentation.specs.Body.{full}
 
 -- ---- the copy's names
@@ -62,11 +63,16 @@ count_cell number target xs x at =
     then choice (same_cell (renamed_all xs at) target.at) (stmts_of (assign (var counter) (Some Add) (var active) ∷ [])) no_stmts ∷ []
     else []
 
--- the reads of an expression, from left to right
+-- the index cells of a cell's subscripts
+abbrev pub count_indices : (Word → ℕ) → Target → List Word → PlainExprs → List PlainStmt
+count_indices number target xs no_exprs = []
+count_indices number target xs (more_exprs e es) = by_cell e (λ x at. count_cell number target xs x at ++ count_indices number target xs es) (count_indices number target xs es)
+
+-- the reads of an expression, from left to right, index cells before the cell that they name
 abbrev pub count_reads : (Word → ℕ) → Target → List Word → PlainExpr → List PlainStmt
 count_reads number target xs (lit n) = []
 count_reads number target xs (var x) = []
-count_reads number target xs (cell x at) = count_cell number target xs x at
+count_reads number target xs (cell x at) = count_indices number target xs at ++ count_cell number target xs x at
 count_reads number target xs (un op a) = count_reads number target xs a
 count_reads number target xs (bin op a b) = count_reads number target xs a ++ count_reads number target xs b
 count_reads number target xs (cast a) = count_reads number target xs a
@@ -133,26 +139,6 @@ pass_text number whole target site =
 abbrev pub write_piece : (Word → ℕ) → PlainStmts → ℕ → PlainExpr → List PlainStmt
 write_piece number whole k (cell x at) = pass_text number whole (record { array = number x; at = at }) (Some k)
 write_piece number whole k _ = []
-
--- the pieces of all assignments, in text order from number k on
-abbrev mutual
-  pub write_pieces : (Word → ℕ) → PlainStmts → ℕ → PlainStmt → List (List PlainStmt)
-  write_pieces number whole k (loop x lo rel hi body) = write_pieces_all number whole k body
-  write_pieces number whole k (choice ts first other) =
-      write_pieces_all number whole k first ++ write_pieces_all number whole (k + sites_all first) other
-  write_pieces number whole k (assign t op e) = write_piece number whole k t ∷ []
-  write_pieces number whole k (table x len) = []
-  write_pieces number whole k begin = []
-  write_pieces number whole k (check x extent a) = []
-  write_pieces number whole k verdict = []
-
-  pub write_pieces_all : (Word → ℕ) → PlainStmts → ℕ → PlainStmts → List (List PlainStmt)
-  write_pieces_all number whole k no_stmts = []
-  write_pieces_all number whole k (more_stmts s ss) = write_pieces number whole k s ++ write_pieces_all number whole (k + sites s) ss
-
--- the piece of a number
-abbrev pub piece_at : List (List PlainStmt) → ℕ → List PlainStmt
-piece_at pieces k = slice_index_or pieces k []
 
 -- a cell by the coordinates of the prologue, one for each extent
 abbrev pub coordinates_from : ℕ → PlainExprs → PlainExprs

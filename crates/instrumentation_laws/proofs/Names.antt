@@ -25,11 +25,11 @@ apart_as p x y e g = apart_by x y (λ same. true≢false (sym e ∙ ap p same �
 pub apart_as' : (p : Word → Bool) (x y : Word) → p x ≡ false → p y ≡ true → bytes_eq x y ≡ false
 apart_as' p x y e g = apart_by x y (λ same. true≢false (sym g ∙ ap p (sym same) ∙ e))
 
-front_cancel : (p x y : Word) → p ++ x ≡ p ++ y → x ≡ y
+pub front_cancel : (p x y : Word) → p ++ x ≡ p ++ y → x ≡ y
 front_cancel [] x y e = e
 front_cancel (a ∷ p) x y e = front_cancel p x y (let g : p ++ x ≡ p ++ y = cc in g)
 
-numbered_apart : (p : Word) (i j : ℕ) → i < 2 ^ 64 → j < 2 ^ 64 → i ≢ j → bytes_eq (numbered p i) (numbered p j) ≡ false
+pub numbered_apart : (p : Word) (i j : ℕ) → i < 2 ^ 64 → j < 2 ^ 64 → i ≢ j → bytes_eq (numbered p i) (numbered p j) ≡ false
 numbered_apart p i j a b h = apart_by (numbered p i) (numbered p j) (λ e. h (decimal_injective i j a b (front_cancel p (decimal i) (decimal j) e)))
 
 pub register_apart : (i j : ℕ) → i < 2 ^ 64 → j < 2 ^ 64 → i ≢ j → bytes_eq (register i) (register j) ≡ false

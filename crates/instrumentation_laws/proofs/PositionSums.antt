@@ -24,10 +24,10 @@ read_sum_is a (x ∷ xs) =
     ap (λ k. cond (not x.access.writes && nat_eq x.access.array a) x.value 0 + k) (read_sum_is a xs) ∙
     sym (front (λ q. cond (not (at (accesses_in (x ∷ xs)) q).writes && nat_eq (at (accesses_in (x ∷ xs)) q).array a) (values_in (x ∷ xs) q) 0) (length (accesses_in xs)))
 
-abbrev position_sum : (ℕ → ℕ) → ℕ → ℕ → List Event → ℕ
+abbrev pub position_sum : (ℕ → ℕ) → ℕ → ℕ → List Event → ℕ
 position_sum u a k xs = sum_below (λ p. cond ((at (accesses_in xs) p).writes && nat_eq (at (accesses_in xs) p).array a) (values_in xs p * u (k + p)) 0) (length (accesses_in xs))
 
-written_sum_is : (u : ℕ → ℕ) (a k : ℕ) (xs : List Event) → written_sum u a k xs ≡ position_sum u a k xs
+pub written_sum_is : (u : ℕ → ℕ) (a k : ℕ) (xs : List Event) → written_sum u a k xs ≡ position_sum u a k xs
 unfolding sum_below
 written_sum_is u a k [] = refl
 written_sum_is u a k (x ∷ xs) =
@@ -46,7 +46,7 @@ rows_are g k (suc n) =
     let rest : sum_below (λ i. g (pos (suc k + i))) n ≡ sum_below (λ i. g (pos (k + suc i))) n = sum_below_same (λ i. g (pos (suc k + i))) (λ i. g (pos (k + suc i))) n (λ i l. ap (λ j. g (pos j)) (let e : suc k + i ≡ k + suc i = omega arith in e)) in
     ap (λ z. g (pos k) + row_sum g (from_on z n)) (next_is k) ∙ ap (λ m. g (pos k) + m) (rows_are g (suc k) n ∙ rest) ∙ ap (λ m. m + sum_below (λ i. g (pos (k + suc i))) n) first ∙ sym (front (λ i. g (pos (k + i))) n)
 
-cells_are : (es : List ℤ) (f : List ℤ → ℕ) → cell_sum f (all_cells es) ≡ Sums.sum_cells es f
+pub cells_are : (es : List ℤ) (f : List ℤ → ℕ) → cell_sum f (all_cells es) ≡ Sums.sum_cells es f
 unfolding Sums.sum_cells
 cells_are [] f = omega arith
 cells_are (e ∷ es) f =

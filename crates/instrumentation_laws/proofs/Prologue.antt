@@ -1,29 +1,26 @@
 -- The prologue leaves each definition total at the sum over the cells of its array.
-use Rattle.std.proofs.Common.{◌≡◌, ℕ, suc, ◌+◌, ◌*◌, ◌%◌, ◌^◌, ◌<◌, ◌≤◌, Bool, true, false, cond, if◌then◌else◌, List, [], ◌∷◌, ◌++◌, length, refl, sym, ap, ◌∙◌, subst, arith, ℤ, Option, None, inl, inr, nat_lt}
+use Rattle.std.proofs.Common.{◌≡◌, ℕ, suc, ◌+◌, ◌*◌, ◌%◌, ◌^◌, ◌<◌, ◌≤◌, Bool, true, false, cond, List, [], ◌∷◌, ◌++◌, length, refl, sym, ap, ◌∙◌, subst, arith, ℤ, Option, None, inl, inr}
 use Rattle.std.specs.Prelude.{bytes_eq}
 use Rattle.std.specs.List.{list_any}
-use Rattle.std.proofs.lemmas.Bool.{cases_eq, cases_lt, lt-ltb, le-ltb}
+use Rattle.std.proofs.lemmas.Bool.{cases_eq}
 use Rattle.c_tree.specs.Plain.{Word, var, cell, PlainExprs, PlainStmt, assign}
 use Rattle.c_tree.specs.Trees.{stmts_of}
 use Rattle.c_tree.specs.Values.{Vars}
 use Rattle.c_tree.specs.Arrays.{Array, Memory, is_within}
-use Rattle.c_tree.specs.Accesses.Definition.{Initial, Written}
+use Rattle.c_tree.specs.Accesses.Definition.{Initial}
 use Rattle.c_tree.specs.Fault.{Upset}
 use Rattle.c_tree.specs.Instances.{Tagged}
-use Rattle.c_tree.specs.Run.{Event, State, Outcome, goes_on, ends, Run, and_then, Scope, loads, within, put, word, set_word, turn, exec, exec_all}
-use Rattle.run_laws.specs.Logs.{accesses_in}
+use Rattle.c_tree.specs.Run.{State, Outcome, goes_on, ends, Run, and_then, Scope, loads, within, put, word, set_word, turn, exec, exec_all}
 use Rattle.instrumentation.specs.Names.{register, count, use_total, definition_total}
 use Rattle.instrumentation.specs.Passes.{coordinates_from}
 use Rattle.instrumentation.specs.Prologue.{add_cell, cell_text, array_text, prologue_text}
 use Rattle.instrumentation_laws.specs.OwnNames.{own, AllMayLoop}
 use Rattle.instrumentation_laws.specs.AccessList.{signed_all}
 use Rattle.instrumentation_laws.specs.Pieces.{Declares, Piece, uses_in}
-use Rattle.instrumentation_laws.specs.RunningTotals.{read_sum, written_sum, Follows, Totals}
 use Rattle.instrumentation_laws.specs.PrologueTotals.{coordinate_vars, IsDeclared, AreDeclared, CountsCells, AreCellPieces, initial_sum, Left}
 use Rattle.instrumentation_laws.specs.Setting.{scope_of}
 use Rattle.instrumentation_laws.proofs.Names.{same_word, apart_as', register_not_own, register_no_piece, register_may_not, not_in, own_no_piece, definition_apart, definition_use, count_use, count_definition}
 use Rattle.instrumentation_laws.proofs.Outcomes.{MustGo, going_then}
-use Rattle.instrumentation_laws.proofs.OneMore.{follows_start}
 use Rattle.instrumentation_laws.proofs.Steps.{exec_join, load_before, set_is, cell_is}
 use Rattle.instrumentation_laws.proofs.CellLoops.{cells_go, own_under, subscripts_regular, subscripts_are}
 
@@ -154,30 +151,3 @@ module _ (arrays : List Array) (number : Word → ℕ) (wides : List Word) (faul
       weaken : (t : State) (q : Outcome (Unit {0})) → a < 2 ^ 64 → Filling s a (initial_sum s.memory whole extents a) t → MustGo (λ b u. Left whole extents (suc a) (length more) t u) q → MustGo (λ b u. Left whole extents a (suc (length more)) s u) q
       weaken t (goes_on v u) small h l = left_more a (length more) s t u small h b l
       weaken t (ends e u) small h l = absurd l
-
-  -- what the definition totals begin with
-  abbrev pub start : Memory → ℕ → ℕ → ℕ
-  start m n a = if nat_lt a n then initial_sum m whole extents a else 0
-
-  -- the totals as the body begins
-  pub begin_totals : (n : ℕ) (s t : State) → Left whole extents 0 n s t → s.accesses ≡ [] → ((b : ℕ) → b < 2 ^ 64 → s.wides (use_total b) ≡ 0) → ((b : ℕ) → b < 2 ^ 64 → s.wides (definition_total b) ≡ 0) →
-      Totals fault s.memory extents whole (start s.memory n) [] (record t { begun = true })
-  begin_totals n s t l empty us ds = record {
-    begun = refl;
-    follows = subst (λ (xs : List Event). Follows fault s.memory extents xs t.memory) (sym (l.accesses ∙ empty)) (follows_start fault s.memory t.memory extents l.memory);
-    made = ap (accesses_in) (l.accesses ∙ empty);
-    used = λ a fits. l.used a fits ∙ us a fits ∙ ap (λ (xs : List Event). read_sum a xs % 2 ^ 128) (sym (l.accesses ∙ empty));
-    defined = λ a fits. elim (cases_lt a n) [
-      | inl low ↦ (l.filled a (omega arith) (omega arith) ∙ ap (λ k. k % 2 ^ 128) (sum_is a (initial_sum s.memory whole extents a) (lt-ltb a n low)))
-      | inr high ↦ (l.after a (omega arith) fits ∙ ds a fits ∙ ap (λ k. k % 2 ^ 128) (sum_is' a (le-ltb a n high)))
-    ];
-  }
-    where
-      none : (a : ℕ) → written_sum (λ n. uses_in whole (Written n)) a 0 t.accesses ≡ 0
-      none a = ap (written_sum (λ n. uses_in whole (Written n)) a 0) (l.accesses ∙ empty)
-
-      sum_is : (a k : ℕ) → nat_lt a n ≡ true → k ≡ cond (nat_lt a n) k 0 + written_sum (λ n. uses_in whole (Written n)) a 0 t.accesses
-      sum_is a k e = rw (e, none a) (omega arith)
-
-      sum_is' : (a : ℕ) → nat_lt a n ≡ false → 0 ≡ start s.memory n a + written_sum (λ n. uses_in whole (Written n)) a 0 t.accesses
-      sum_is' a e = rw (e, none a) refl

@@ -1,8 +1,6 @@
 -- The prologue with pieces that go on leaves memory, accesses and the words of the source.
 use Rattle.std.proofs.Common.{◌≡◌, ℕ, suc, ◌+◌, Bool, true, false, cond, List, [], ◌∷◌, refl, sym, ap, ◌∙◌, subst, ℤ, Option}
-use Rattle.c_tree.specs.Plain.{Word, PlainExprs, PlainStmt, PlainStmts}
-use Rattle.c_tree.specs.Instances.{Tagged}
-use Rattle.instrumentation_laws.specs.AccessList.{tagged_all}
+use Rattle.c_tree.specs.Plain.{Word, PlainExprs, PlainStmt}
 use Rattle.c_tree.specs.Trees.{stmts_of}
 use Rattle.c_tree.specs.Values.{Vars}
 use Rattle.c_tree.specs.Arrays.{Array, is_within}
@@ -11,9 +9,9 @@ use Rattle.c_tree.specs.Run.{State, Scope, put, turn, exec_all}
 use Rattle.instrumentation.specs.Names.{register}
 use Rattle.instrumentation.specs.Prologue.{cell_text, array_text, prologue_text}
 use Rattle.instrumentation_laws.specs.OwnNames.{own, AllMayLoop}
+use Rattle.instrumentation_laws.specs.Setting.{scope_of}
 use Rattle.instrumentation_laws.specs.Pieces.{Declares, Piece}
-use Rattle.instrumentation_laws.specs.PrologueTotals.{coordinate_vars, IsDeclared, AreDeclared, AreGoing, AreCellPieces}
-use Rattle.instrumentation_laws.specs.Setting.{scope_of, GoingSetting, Setting}
+use Rattle.instrumentation_laws.specs.PrologueTotals.{coordinate_vars, IsDeclared, AreDeclared, AreGoing}
 use Rattle.instrumentation_laws.proofs.Names.{apart_as', register_not_own, own_no_piece}
 use Rattle.instrumentation_laws.proofs.Outcomes.{MustGo, going_then, going_weaker}
 use Rattle.instrumentation_laws.proofs.Steps.{exec_join}
@@ -65,21 +63,3 @@ module _ (arrays : List Array) (number : Word → ℕ) (wides : List Word) (faul
       (going_then ⊥ (λ b t. Unmoved s t) (λ b t. Unmoved s t) (exec_all text_scope (stmts_of (array_text a x.0 x.1 (cells a x.1))) vs s) (λ b t. exec_all text_scope (stmts_of (prologue_text cells (suc a) more)) vs t)
       (array_unmoved a x.0 x.1 (cells a x.1) c.0 s d.0 b)
       (λ u t h. going_weaker ⊥ (λ b u. Unmoved t u) (λ b u. Unmoved s u) (exec_all text_scope (stmts_of (prologue_text cells (suc a) more)) vs t) (prologue_unmoved cells more (suc a) t c.1 d.1 h.begun) (λ b u k. unmoved_then s t u h k)))
-
--- ---- pieces that count go on
-
-cells_go_on : (sc : Scope) (whole : List Tagged) (vs : Vars) (extents : ℕ → List ℤ) (cells : ℕ → PlainExprs → List PlainStmt) (a : ℕ) (decls : List (Word × PlainExprs)) → AreCellPieces sc whole vs extents cells a decls → AreGoing sc cells a decls
-cells_go_on sc whole vs extents cells a [] h = tt
-cells_go_on sc whole vs extents cells a (x ∷ more) h = (h.0.piece, cells_go_on sc whole vs extents cells (suc a) more h.1)
-
-pub setting_goes : (arrays : List Array) (number : Word → ℕ) (wides : List Word) (fault : Option Upset) (vs : Vars) (extents : ℕ → List ℤ) (decls : List (Word × PlainExprs)) (body : PlainStmts) (cells : ℕ → PlainExprs → List PlainStmt) (pieces : ℕ → List PlainStmt) →
-    Setting arrays number wides fault vs extents decls body cells pieces → GoingSetting arrays number wides fault vs extents decls body cells pieces
-setting_goes arrays number wides fault vs extents decls body cells pieces set = record {
-  names = set.names;
-  vars = set.vars;
-  declared = set.declared;
-  sizes = set.sizes;
-  source = set.source;
-  pieces_go = λ k. (set.pieces_count k).piece;
-  cells_go = cells_go_on (scope_of arrays wides fault) (tagged_all number 0 body vs) vs extents cells 0 decls set.cells_count;
-}

@@ -1,58 +1,16 @@
 -- The instrumented unit of a regular source stands in a setting by itself, and the unit with counting passes is one.
-use Rattle.std.proofs.Common.{◌≡◌, ℕ, zero, suc, true, false, cond, List, [], ◌∷◌, ◌++◌, length, refl, sym, ap, ◌∙◌, subst, arith}
-use Rattle.std.proofs.lemmas.List.{length-map}
+use Rattle.std.proofs.Common.{◌≡◌, ℕ, zero, suc, Bool, true, false, cond, List, [], ◌∷◌, ◌++◌, refl, ap, ◌∙◌, append_assoc}
 use Rattle.std.specs.Prelude.{bytes_eq, max}
-use Rattle.c_tree.specs.Plain.{Word, PlainExprs}
-use Rattle.c_tree.specs.Values.{Vars}
-use Rattle.c_tree.specs.Arrays.{Array, extents_at, vars_of}
-use Rattle.c_tree.specs.Inputs.{arrays_for}
+use Rattle.c_tree.specs.Plain.{Word, PlainExprs, PlainStmts}
 use Rattle.c_tree.specs.Instances.{literal_of}
-use Rattle.instrumentation.specs.Names.{result, active, counter}
+use Rattle.instrumentation.specs.Names.{result, active, counter, written, index_word}
+use Rattle.instrumentation.specs.Inspects.{inspects_all}
+use Rattle.instrumentation.specs.Pieces.{index_words_from, written_words, widest, table_words}
 use Rattle.instrumentation.specs.Body.{registers_all}
-use Rattle.instrumentation.specs.Guarded.{arrays_with_extents, array_names, register_words, own_words}
+use Rattle.instrumentation.specs.Guarded.{arrays_with_extents, register_words, own_words}
 use Rattle.instrumentation_laws.specs.OwnNames.{own}
-use Rattle.instrumentation_laws.specs.Setting.{GoingSetting, Setting}
-use Rattle.instrumentation_laws.specs.RegularUnits.{number_for, RegularUnitsAreCounted, RegularUnitsGoOn, GuardedIsInstrumented}
+use Rattle.instrumentation_laws.specs.RegularUnits.{number_for, GuardedIsInstrumented}
 use Rattle.instrumentation_laws.proofs.Names.{apart_as', register_not_own, result_not_own}
-use Rattle.instrumentation_laws.proofs.Declared.{names_are, declares, sizes_are, declared_from}
-
-pub regular_counted : RegularUnitsAreCounted
-regular_counted u t ns fault cells pieces regular text wides has =
-    let vs : Vars = vars_of u.params ns in
-    let arrays : List Array = arrays_for u ns in
-    let same = names_are vs u.params in
-    record {
-      text = text;
-      setting = subst (λ (ws : List Word). Setting arrays (number_for u) ws fault vs (extents_at arrays) (arrays_with_extents u.params) u.body cells pieces) (sym wides) (record {
-        names = declares arrays (array_names u.params) same (number_for u);
-        vars = regular.params;
-        declared = declared_from arrays (array_names u.params) same regular.few vs [] u.params refl tt regular.arrays;
-        sizes = sizes_are arrays (number_for u);
-        source = regular.body;
-        pieces_count = has.at_sites;
-        cells_count = has.at_cells;
-      });
-      all = sym (length-map arrays (λ (r : Array). r.name)) ∙ ap length same ∙ length-map (arrays_with_extents u.params) (λ a. a.0);
-      few = let e = length-map (arrays_with_extents u.params) (λ (a : Word × PlainExprs). a.0) in let f = regular.few in omega arith;
-    }
-
-pub regular_going : RegularUnitsGoOn
-regular_going u t ns fault cells pieces regular text wides sites prologue =
-    let vs : Vars = vars_of u.params ns in
-    let arrays : List Array = arrays_for u ns in
-    let same = names_are vs u.params in
-    record {
-      text = text;
-      setting = subst (λ (ws : List Word). GoingSetting arrays (number_for u) ws fault vs (extents_at arrays) (arrays_with_extents u.params) u.body cells pieces) (sym wides) (record {
-        names = declares arrays (array_names u.params) same (number_for u);
-        vars = regular.params;
-        declared = declared_from arrays (array_names u.params) same regular.few vs [] u.params refl tt regular.arrays;
-        sizes = sizes_are arrays (number_for u);
-        source = regular.body;
-        pieces_go = sites;
-        cells_go = prologue;
-      });
-    }
 
 -- ---- the words of the text's own
 
@@ -72,8 +30,35 @@ registers_none : (j n : ℕ) (ws : List (Word × ℕ)) → NoneOwn ws → NoneOw
 registers_none j zero ws h = h
 registers_none j (suc n) ws h = (register_not_own j, registers_none (suc j) n ws h)
 
+none_join : (ws more : List (Word × ℕ)) → NoneOwn ws → NoneOwn more → NoneOwn (ws ++ more)
+none_join [] more h g = g
+none_join (w ∷ ws) more h g = (h.0, none_join ws more h.1 g)
+
 own_words_none : (n : ℕ) → NoneOwn (own_words n)
 own_words_none n = registers_none 0 n ((result, 0) ∷ (active, 0) ∷ (counter, 0) ∷ []) (result_not_own, (active_not_own, (counter_not_own, tt)))
+
+written_not_own : (a : ℕ) → own (written a) ≡ false
+unfolding written
+written_not_own a = refl
+
+index_not_own : (d : ℕ) → own (index_word d) ≡ false
+unfolding index_word
+index_not_own d = refl
+
+index_words_none : (d n : ℕ) → NoneOwn (index_words_from d n)
+index_words_none d zero = tt
+index_words_none d (suc n) = (index_not_own d, index_words_none (suc d) n)
+
+written_words_none : (number : Word → ℕ) (whole : PlainStmts) (a : ℕ) (decls : List (Word × PlainExprs)) → NoneOwn (written_words number whole a decls)
+written_words_none number whole a [] = tt
+written_words_none number whole a (x ∷ more) = chosen (inspects_all number a whole) (written_words_none number whole (suc a) more)
+  where
+    chosen : (b : Bool) → NoneOwn (written_words number whole (suc a) more) → NoneOwn (cond b ((written a, 0) ∷ []) [] ++ written_words number whole (suc a) more)
+    chosen true h = (written_not_own a, h)
+    chosen false h = h
+
+table_words_none : (number : Word → ℕ) (whole : PlainStmts) (decls : List (Word × PlainExprs)) → NoneOwn (table_words number whole decls)
+table_words_none number whole decls = none_join (index_words_from 0 (widest number whole 0 decls)) (written_words number whole 0 decls) (index_words_none 0 (widest number whole 0 decls)) (written_words_none number whole 0 decls)
 
 behind : (ws : List (Word × ℕ)) (x : Word) → own x ≡ true → NoneOwn ws → literal_of ws x ≡ 0
 behind [] x o h = refl
@@ -89,6 +74,8 @@ guarded_instrumented u version wides = record {
   no_wides = wides;
   printed = refl;
   params = refl;
-  words = λ x o. words_same u.words (own_words (max 1 (registers_all u.body))) x o (own_words_none (max 1 (registers_all u.body)));
+  words = λ x o. ap (λ ws. literal_of ws x) (append_assoc u.words (own_words (max 1 (registers_all u.body))) (table_words (number_for u) u.body (arrays_with_extents u.params))) ∙
+      words_same u.words (own_words (max 1 (registers_all u.body)) ++ table_words (number_for u) u.body (arrays_with_extents u.params)) x o
+      (none_join (own_words (max 1 (registers_all u.body))) (table_words (number_for u) u.body (arrays_with_extents u.params)) (own_words_none (max 1 (registers_all u.body))) (table_words_none (number_for u) u.body (arrays_with_extents u.params)));
   body = refl;
 }

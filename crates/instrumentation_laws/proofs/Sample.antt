@@ -12,7 +12,7 @@ use Rattle.c_tree.specs.declared.expr.BinOp.TheVariants.{Add, Sub}
 use Rattle.instrumentation.specs.Names.{register, result, count, definition_total, use_total, coordinate, pass_variable, active, counter, function_name, number_in}
 use Rattle.instrumentation.specs.Body.{instrument_all}
 use Rattle.instrumentation.specs.Prologue.{prologue_text}
-use Rattle.instrumentation.specs.Guarded.{guarded}
+use Rattle.instrumentation.specs.Guarded.{extents_of, guarded}
 
 abbrev n : Word
 n = codes "n"
@@ -56,7 +56,7 @@ printed hi = record {
   params = (source hi).params;
   words = (codes "bal_r0", 0) ∷ (codes "bal_w", 0) ∷ [];
   wides = codes "bal_k" ∷ codes "bal_def0" ∷ codes "bal_use0" ∷ [];
-  body = stmts_of (prologue_text cells 0 ((codes "A", more_exprs (var n) no_exprs) ∷ []) ++ (begin ∷ (instrument_all (number_in (codes "A" ∷ [])) pieces 0 (body hi) ++ verdict ∷ [])));
+  body = stmts_of (prologue_text cells 0 ((codes "A", more_exprs (var n) no_exprs) ∷ []) ++ (begin ∷ (instrument_all (number_in (codes "A" ∷ [])) (extents_of (source hi).params) pieces 0 (body hi) ++ verdict ∷ [])));
 }
 
 abbrev inputs : PlainInputs

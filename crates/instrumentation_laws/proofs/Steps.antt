@@ -1,11 +1,12 @@
 -- What single fragments of an instrumented text do, each as one equation of its run.
-use Rattle.std.proofs.Common.{◌≡◌, ℕ, ◌+◌, ◌*◌, ◌%◌, ◌^◌, Bool, true, false, cond, ◌&&◌, if◌then◌else◌, List, [], ◌∷◌, ◌++◌, length, refl, sym, ap, ◌∙◌, subst, ℤ, Option, Some, None}
+use Rattle.std.proofs.Common.{◌≡◌, ℕ, ◌+◌, ◌*◌, ◌%◌, ◌^◌, Bool, true, false, cond, ◌&&◌, if◌then◌else◌, List, [], ◌∷◌, ◌++◌, length, refl, sym, ap, ◌∙◌, subst, ℤ, pos, Option, Some, None}
 use Rattle.std.specs.Prelude.{bytes_eq, slice_index}
 use Rattle.std.specs.List.{list_any}
-use Rattle.c_tree.specs.Plain.{Word, PlainExpr, lit, var, cell, un, bin, cast, test, umin, umax, least, greatest, widen, big, PlainExprs, no_exprs, more_exprs, PlainTest, PlainStmt, assign}
+use Rattle.c_tree.specs.Plain.{Word, PlainExpr, var, cell, widen, PlainExprs, no_exprs, more_exprs, PlainTest, PlainStmt, assign}
 use Rattle.c_tree.specs.Trees.{stmts_of}
-use Rattle.c_tree.specs.Values.{Vars, signed, signed_holds, word_bin}
-use Rattle.c_tree.specs.Arrays.{Array, Memory, stored}
+use Rattle.c_tree.specs.Kinds.{is_word}
+use Rattle.c_tree.specs.Values.{Vars, kind, signed, signed_holds, word_bin}
+use Rattle.c_tree.specs.Arrays.{Array, Memory, stored, array_named}
 use Rattle.c_tree.specs.Accesses.{Access}
 use Rattle.c_tree.specs.Fault.{Upset, disturbed}
 use Rattle.c_tree.specs.Run.{Event, State, End, Outcome, goes_on, ends, Run, ◌>>=◌, ◌>>◌, and_then, give, done, Scope, loads, stores, logged, struck, within, by_array, put, word, wide, coordinates, first_word, updated, holds, all_hold, assigned, set_word, exec, exec_all}
@@ -15,7 +16,7 @@ use Rattle.c_tree.specs.declared.expr.BinOp.TheVariants.{Add}
 use Rattle.instrumentation.specs.Names.{register, result, count, use_total, definition_total}
 use Rattle.instrumentation.specs.Body.{load_text, store_text, add_text, full}
 use Rattle.instrumentation_laws.specs.OwnNames.{AllMayLoop}
-use Rattle.instrumentation_laws.specs.RegularSources.{IsArray, AreRegular, AreSigned, IsData, IsTarget}
+use Rattle.instrumentation_laws.specs.RegularSources.{IsArray, AreRegular, AreSigned}
 use Rattle.instrumentation_laws.specs.AccessList.{signed_all, tests_hold}
 use Rattle.instrumentation_laws.specs.Pieces.{Declares, Piece}
 use Rattle.instrumentation_laws.specs.Setting.{scope_of}
@@ -116,6 +117,20 @@ pub regular_at : (sc : Scope) (es : PlainExprs) (vs : Vars) (s : State) → AreR
 regular_at sc no_exprs vs s h = refl
 regular_at sc (more_exprs e es) vs s h = rw (h.0, regular_at sc es vs s h.1)
 
+-- the load of a cell, whatever its subscripts
+pub cell_run : (sc : Scope) (x : Word) (at : PlainExprs) (vs : Vars) (s : State) (a : ℕ × Array) → array_named sc.arrays x ≡ Some a → word sc (cell x at) vs s ≡ and_then (coordinates sc at vs s) (λ cs. within a cs (loads sc))
+cell_run sc x at vs s a named = ap (λ o. by_array o (λ a. coordinates sc at vs >>= (λ cs. within a cs (loads sc))) (first_word sc at vs >>= (λ i. run.reads (λ s. slice_index (s.tables x) i))) s) named
+
+-- a signed subscript, and one that is a cell
+pub signed_first : (sc : Scope) (e : PlainExpr) (es : PlainExprs) (vs : Vars) (s : State) → is_word (kind vs e) ≡ false → coordinates sc (more_exprs e es) vs s ≡ and_then (coordinates sc es vs s) (λ cs t. goes_on (signed e vs ∷ cs) t)
+signed_first sc e es vs s h = rw h refl
+
+pub cell_first : (sc : Scope) (p : Word) (at es : PlainExprs) (vs : Vars) (s : State) (a : ℕ × Array) → array_named sc.arrays p ≡ Some a → AreRegular at vs →
+    coordinates sc (more_exprs (cell p at) es) vs s ≡ and_then (within a (signed_all at vs) (loads sc) s) (λ n t. and_then (coordinates sc es vs t) (λ cs t. goes_on (pos n ∷ cs) t))
+cell_first sc p at es vs s a named h =
+    ap (λ q. and_then (and_then q (λ n. give (pos n))) (λ c t. and_then (coordinates sc es vs t) (λ cs t. goes_on (c ∷ cs) t))) (cell_run sc p at vs s a named ∙ ap (λ o. and_then o (λ cs. within a cs (loads sc))) (regular_at sc at vs s h)) ∙
+    assoc (within a (signed_all at vs) (loads sc) s) (λ n. give (pos n)) (λ c t. and_then (coordinates sc es vs t) (λ cs t. goes_on (c ∷ cs) t))
+
 -- the load of a cell
 pub cell_is : (arrays : List Array) (number : Word → ℕ) (wides : List Word) (fault : Option Upset) (x : Word) (at : PlainExprs) (vs : Vars) (s : State) → (a : IsArray arrays number x) → AreRegular at vs →
     word (scope_of arrays wides fault) (cell x at) vs s ≡ within a.array (signed_all at vs) (loads (scope_of arrays wides fault)) s
@@ -205,23 +220,6 @@ module _ (arrays : List Array) (number : Word → ℕ) (wides : List Word) (faul
       (add_definition text_scope a.array.0 vs (p.to vs t) o (names.defined x a)))
 
 -- ---- assignments and tests of a source
-
--- the full value of an assignment is data
-pub full_data : (arrays : List Array) (number : Word → ℕ) (t : PlainExpr) (op : Option BinOp) (e : PlainExpr) (vs : Vars) → IsTarget arrays number t vs → IsData arrays number e vs → IsData arrays number (full t op e) vs
-full_data arrays number t None e vs h d = d
-full_data arrays number (var x) (Some op) e vs h d = (h, d)
-full_data arrays number (cell x at) (Some op) e vs h d = (h, d)
-full_data arrays number (lit n) (Some op) e vs h d = absurd h
-full_data arrays number (un o a) (Some op) e vs h d = absurd h
-full_data arrays number (bin o a b) (Some op) e vs h d = absurd h
-full_data arrays number (cast a) (Some op) e vs h d = absurd h
-full_data arrays number (test rel a b) (Some op) e vs h d = absurd h
-full_data arrays number (umin a b) (Some op) e vs h d = absurd h
-full_data arrays number (umax a b) (Some op) e vs h d = absurd h
-full_data arrays number (least a b) (Some op) e vs h d = absurd h
-full_data arrays number (greatest a b) (Some op) e vs h d = absurd h
-full_data arrays number (widen a) (Some op) e vs h d = absurd h
-full_data arrays number (big high low) (Some op) e vs h d = absurd h
 
 -- an assignment to a cell gives it the full value
 pub cell_assigned : (arrays : List Array) (number : Word → ℕ) (wides : List Word) (fault : Option Upset) (x : Word) (at : PlainExprs) (op : Option BinOp) (e : PlainExpr) (vs : Vars) (s : State) →

@@ -1,30 +1,33 @@
 -- Every value that a source's run reads and writes is a word, under every fault of a bit below 64.
-use Rattle.std.proofs.Common.{◌≡◌, ℕ, zero, suc, ◌+◌, ◌/◌, ◌%◌, ◌^◌, ◌<◌, Bool, true, false, cond, ◌&&◌, if◌then◌else◌, List, [], ◌∷◌, ◌++◌, length, sym, subst, arith, ℤ, Option, Some, None, nat_eq, nat_lt}
+use Rattle.std.proofs.Common.{◌≡◌, ℕ, zero, suc, ◌+◌, ◌/◌, ◌%◌, ◌^◌, ◌<◌, Bool, true, false, cond, ◌&&◌, if◌then◌else◌, List, [], ◌∷◌, ◌++◌, length, sym, subst, arith, ℤ, pos, Option, Some, None, nat_eq, nat_lt}
 use Rattle.std.proofs.lemmas.Bool.{cond_both}
 use Rattle.std.proofs.lemmas.Nat.{xor_lt, or_lt, pow_below}
 use Rattle.std.specs.List.{AllByRecursion}
 use Rattle.std.specs.Int.Bits.{and_lt}
 use Rattle.std.proofs.Math.Nat.{div-le_self, mod-le}
 use Rattle.std.specs.Prelude.{bytes_eq}
-use Rattle.c_tree.specs.Plain.{Word, PlainExpr, lit, var, cell, un, bin, cast, test, umin, umax, least, greatest, widen, big, PlainExprs, PlainStmt, loop, choice, assign, table, begin, check, verdict, PlainStmts, no_stmts, more_stmts}
+use Rattle.c_tree.specs.Plain.{Word, PlainExpr, lit, var, cell, un, bin, cast, test, umin, umax, least, greatest, widen, big, PlainExprs, no_exprs, more_exprs, PlainStmt, loop, choice, assign, table, begin, check, verdict, PlainStmts, no_stmts, more_stmts}
 use Rattle.c_tree.specs.Kinds.{is_signed}
 use Rattle.c_tree.specs.Values.{Vars, signed, as_word, word_un, word_bin, word_holds, as_bit, kind, loop_values}
 use Rattle.c_tree.proofs.WordValues.{as_word_fits}
 use Rattle.c_tree.specs.Arrays.{Array, Memory, stored, same_cell, is_within}
 use Rattle.c_tree.specs.Fault.{Upset, inverted, disturbed}
-use Rattle.c_tree.specs.Run.{Event, State, goes_on, ends, outside, Run, ◌>>◌, and_then, give, Scope, loads, stores, within, word, set_word, turn, over, exec, exec_all, assigned}
+use Rattle.c_tree.specs.Run.{Event, State, goes_on, ends, outside, Run, ◌>>◌, and_then, give, Scope, loads, stores, within, word, coordinates, set_word, turn, over, exec, exec_all, assigned}
 use Rattle.c_tree.specs.declared.expr.UnOp.{UnOp}
 use Rattle.c_tree.specs.declared.expr.UnOp.TheVariants.{Neg, Inv}
 use Rattle.c_tree.specs.declared.expr.BinOp.{BinOp}
 use Rattle.c_tree.specs.declared.expr.BinOp.TheVariants.{Add, Sub, Mul, Div, Rem, Shl, Shr, And, Xor, Or}
 use Rattle.run_laws.specs.Logs.{values_in}
 use Rattle.instrumentation.specs.Body.{full}
-use Rattle.instrumentation_laws.specs.RegularSources.{IsData, IsTarget, IsSource, AreSource}
+use Rattle.instrumentation_laws.specs.RegularSources.{IsTarget}
+use Rattle.instrumentation_laws.specs.Sources.{IsSubscript, AreSubscripts, IsData, IsSource, AreSource}
 use Rattle.instrumentation_laws.specs.AccessList.{signed_all, tests_hold}
 use Rattle.instrumentation_laws.specs.WordValues.{GivesWord, AssignsWords, AllAssignWords}
 use Rattle.instrumentation_laws.specs.Setting.{scope_of}
 use Rattle.instrumentation_laws.proofs.Outcomes.{IfGoing, going_then}
-use Rattle.instrumentation_laws.proofs.Steps.{found, event, load_begun, store_begun, cell_is, cell_assigned, var_assigned, all_hold_is}
+use Rattle.instrumentation.proofs.Subscripts.{cell_or_not}
+use Rattle.instrumentation_laws.proofs.IndexCells.{plain_kind}
+use Rattle.instrumentation_laws.proofs.Steps.{found, event, load_begun, store_begun, regular_at, cell_run, signed_first, cell_first, cell_assigned, var_assigned, all_hold_is}
 
 -- ---- values
 
@@ -93,7 +96,7 @@ pub record IsFit (s : State) : Type 0 where
   pub words : (x : Word) → s.words x < 2 ^ 64
   pub log : Bounded s.accesses
 
-module _ (arrays : List Array) (number : Word → ℕ) (fault : Option Upset) (bit : BitFits fault) where
+module _ (arrays : List Array) (number : Word → ℕ) (extents : Word → PlainExprs) (inspected : ℕ → Bool) (fault : Option Upset) (bit : BitFits fault) where
   abbrev sc : Scope
   sc = scope_of arrays [] fault
 
@@ -130,10 +133,34 @@ module _ (arrays : List Array) (number : Word → ℕ) (fault : Option Upset) (b
   cast_fits true z p s h g = (as_word_fits z, h)
   cast_fits false z p s h g = g
 
-  pub expr_fits : (e : PlainExpr) (vs : Vars) (s : State) → IsData arrays number e vs → GivesWord e → IsFit s → IfGoing (Unit {0}) Value (word sc e vs s)
+  -- ---- subscripts
+
+  abbrev Coordinates : List ℤ → State → Type 0
+  Coordinates cs t = IsFit t
+
+  abbrev FitsFrom : Type 0 → PlainExpr → ℤ → PlainExprs → Vars → State → PlainExpr → Type 0
+  FitsFrom i n z es vs s e = IsSubscript arrays number i e n z vs → IfGoing (Unit {0}) Coordinates (coordinates sc (more_exprs e es) vs s)
+
+  coordinates_fit : (i : Type 0) (at ns : PlainExprs) (zs : List ℤ) (vs : Vars) (s : State) → AreSubscripts arrays number i at ns zs vs → IsFit s → IfGoing (Unit {0}) Coordinates (coordinates sc at vs s)
+  coordinates_fit i no_exprs ns zs vs s d h = h
+  coordinates_fit i (more_exprs e es) no_exprs zs vs s d h = rw (regular_at sc (more_exprs e es) vs s d) h
+  coordinates_fit i (more_exprs e es) (more_exprs n ns) [] vs s d h = rw (regular_at sc (more_exprs e es) vs s d) h
+  coordinates_fit i (more_exprs e es) (more_exprs n ns) (z ∷ zs) vs s d h =
+      cell_or_not (FitsFrom i n z es vs s)
+      (λ p at sub. subst (IfGoing (Unit {0}) Coordinates) (sym (cell_first sc p at es vs s sub.0.array sub.0.named sub.1))
+      (going_then (Unit {0}) Value Coordinates (within sub.0.array (signed_all at vs) (loads sc) s) (λ n t. and_then (coordinates sc es vs t) (λ cs t. goes_on (pos n ∷ cs) t)) (load_fits sub.0.array (signed_all at vs) s h)
+      (λ n t r. going_then (Unit {0}) Coordinates Coordinates (coordinates sc es vs t) (λ cs t. goes_on (pos n ∷ cs) t) (coordinates_fit i es ns zs vs t d.1 r.1) (λ cs w k. k))))
+      (λ e other sub. subst (IfGoing (Unit {0}) Coordinates) (sym (signed_first sc e es vs s (plain_kind arrays number i e n z vs other sub)))
+      (going_then (Unit {0}) Coordinates Coordinates (coordinates sc es vs s) (λ cs t. goes_on (signed e vs ∷ cs) t) (coordinates_fit i es ns zs vs s d.1 h) (λ cs w k. k)))
+      e d.0
+
+  pub expr_fits : (e : PlainExpr) (vs : Vars) (s : State) → IsData arrays number extents inspected e vs → GivesWord e → IsFit s → IfGoing (Unit {0}) Value (word sc e vs s)
   expr_fits (lit n) vs s d l h = (l, h)
   expr_fits (var x) vs s d l h = (h.words x, h)
-  expr_fits (cell x at) vs s d l h = rw (cell_is arrays number [] fault x at vs s d.0 d.1) (load_fits d.0.array (signed_all at vs) s h)
+  expr_fits (cell x at) vs s d l h =
+      rw (cell_run sc x at vs s d.array.array d.array.named)
+      (going_then (Unit {0}) Coordinates Value (coordinates sc at vs s) (λ cs. within d.array.array cs (loads sc)) (coordinates_fit (inspected d.array.array.0 ≡ true) at (extents x) d.array.array.1.extents vs s d.at_each h)
+      (λ cs t r. load_fits d.array.array cs t r))
   expr_fits (un op a) vs s d l h = going_then (Unit {0}) Value Value (word sc a vs s) (λ x t. goes_on (word_un op x) t) (expr_fits a vs s d l h) (λ x t r. (un_fits op x r.0, r.1))
   expr_fits (bin op a b) vs s d l h = two_fit (word_bin op) (word sc a vs) (word sc b vs) s (bin_fits op) (expr_fits a vs s d.0 l.0 h) (λ t k. expr_fits b vs t d.1 l.1 k)
   expr_fits (cast a) vs s d l h = cast_fits (is_signed (kind vs a)) (signed a vs) (word sc a vs) s h (expr_fits a vs s d.0 l h)
@@ -150,22 +177,14 @@ module _ (arrays : List Array) (number : Word → ℕ) (fault : Option Upset) (b
   abbrev Stays : Unit {0} → State → Type 0
   Stays u t = IsFit t
 
-  var_data : (x : Word) (op : Option BinOp) (e : PlainExpr) (vs : Vars) → IsTarget arrays number (var x) vs → IsData arrays number e vs → IsData arrays number (full (var x) op e) vs
-  var_data x None e vs h d = d
-  var_data x (Some op) e vs h d = (h, d)
-
-  cell_data : (x : Word) (at : PlainExprs) (op : Option BinOp) (e : PlainExpr) (vs : Vars) → IsTarget arrays number (cell x at) vs → IsData arrays number e vs → IsData arrays number (full (cell x at) op e) vs
-  cell_data x at None e vs h d = d
-  cell_data x at (Some op) e vs h d = (h, d)
-
-  assign_fits : (t : PlainExpr) (op : Option BinOp) (e : PlainExpr) (vs : Vars) (s : State) → IsTarget arrays number t vs → IsData arrays number e vs → GivesWord (full t op e) → IsFit s → IfGoing (Unit {0}) Stays (assigned sc t op e vs s)
+  assign_fits : (t : PlainExpr) (op : Option BinOp) (e : PlainExpr) (vs : Vars) (s : State) → IsTarget arrays number t vs → IsData arrays number extents inspected (full t op e) vs → GivesWord (full t op e) → IsFit s → IfGoing (Unit {0}) Stays (assigned sc t op e vs s)
   assign_fits (var x) op e vs s t d l h =
       rw (var_assigned arrays fault x op e vs s)
-      (going_then (Unit {0}) Value Stays (word sc (full (var x) op e) vs s) (set_word x) (expr_fits (full (var x) op e) vs s (var_data x op e vs t d) l h)
+      (going_then (Unit {0}) Value Stays (word sc (full (var x) op e) vs s) (set_word x) (expr_fits (full (var x) op e) vs s d l h)
       (λ v t r. record { begun = r.1.begun; memory = r.1.memory; words = λ y. chosen_fits (bytes_eq x y) v (t.words y) r.0 (r.1.words y); log = r.1.log }))
   assign_fits (cell x at) op e vs s t d l h =
       rw (cell_assigned arrays number [] fault x at op e vs s t.0 t.1)
-      (going_then (Unit {0}) Value Stays (word sc (full (cell x at) op e) vs s) (λ n. within t.0.array (signed_all at vs) (λ k c. stores sc k c n)) (expr_fits (full (cell x at) op e) vs s (cell_data x at op e vs t d) l h)
+      (going_then (Unit {0}) Value Stays (word sc (full (cell x at) op e) vs s) (λ n. within t.0.array (signed_all at vs) (λ k c. stores sc k c n)) (expr_fits (full (cell x at) op e) vs s d l h)
       (λ v w r. store_fits t.0.array (signed_all at vs) v w r.0 r.1))
   assign_fits (lit n) op e vs s t d l h = absurd t
   assign_fits (un o a) op e vs s t d l h = absurd t
@@ -195,7 +214,7 @@ module _ (arrays : List Array) (number : Word → ℕ) (fault : Option Upset) (b
   choice_fits false p q s h g = g
 
   mutual
-    pub stmt_fits : (p : PlainStmt) (vs : Vars) (s : State) → IsSource arrays number p vs → AssignsWords p vs → IsFit s → IfGoing (Unit {0}) Stays (exec sc p vs s)
+    pub stmt_fits : (p : PlainStmt) (vs : Vars) (s : State) → IsSource arrays number extents inspected p vs → AssignsWords p vs → IsFit s → IfGoing (Unit {0}) Stays (exec sc p vs s)
     stmt_fits (loop x lo rel hi body) vs s h l f =
         over_fits (λ v. turn >> exec_all sc body ((x, v) ∷ vs)) (λ v. AllAssignWords body ((x, v) ∷ vs)) (λ v t l r. going_then (Unit {0}) Stays Stays (turn t) (λ u. exec_all sc body ((x, v) ∷ vs)) (turn_fits t r) (λ u w k. stmts_fit body ((x, v) ∷ vs) w (h.1 v) l k))
         (loop_values (signed lo vs) rel (signed hi vs)) s l f
@@ -207,6 +226,6 @@ module _ (arrays : List Array) (number : Word → ℕ) (fault : Option Upset) (b
     stmt_fits (check x extent n) vs s h l f = absurd h
     stmt_fits verdict vs s h l f = absurd h
 
-    pub stmts_fit : (ps : PlainStmts) (vs : Vars) (s : State) → AreSource arrays number ps vs → AllAssignWords ps vs → IsFit s → IfGoing (Unit {0}) Stays (exec_all sc ps vs s)
+    pub stmts_fit : (ps : PlainStmts) (vs : Vars) (s : State) → AreSource arrays number extents inspected ps vs → AllAssignWords ps vs → IsFit s → IfGoing (Unit {0}) Stays (exec_all sc ps vs s)
     stmts_fit no_stmts vs s h l f = f
     stmts_fit (more_stmts p ps) vs s h l f = going_then (Unit {0}) Stays Stays (exec sc p vs s) (λ u. exec_all sc ps vs) (stmt_fits p vs s h.0 l.0 f) (λ u t r. stmts_fit ps vs t h.1 l.1 r)

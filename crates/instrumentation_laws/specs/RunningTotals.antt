@@ -1,15 +1,11 @@
 -- The totals of an instrumented text while it runs: what they are over the accesses that were made so far.
-use Rattle.std.specs.Prelude.{◌≡◌, ℕ, suc, ◌+◌, ◌*◌, ◌^◌, ◌%◌, ◌<◌, true, not, ◌&&◌, if◌then◌else◌, nat_eq, List, [], ◌∷◌, length, ℤ, Option}
+use Rattle.std.specs.Prelude.{◌≡◌, ℕ, suc, ◌+◌, ◌*◌, not, ◌&&◌, if◌then◌else◌, nat_eq, List, [], ◌∷◌, length, ℤ, Option}
 use Rattle.c_tree.specs.Arrays.{Memory}
 use Rattle.c_tree.specs.Accesses.{Clean}
-use Rattle.c_tree.specs.Accesses.Definition.{Written}
 use Rattle.c_tree.specs.Fault.{Upset}
-use Rattle.c_tree.specs.Instances.{Tagged, untagged}
-use Rattle.c_tree.specs.Run.{Event, State}
+use Rattle.c_tree.specs.Run.{Event}
 use Rattle.balance_laws.specs.Replay.{left_after, Replays}
 use Rattle.run_laws.specs.Logs.{accesses_in, values_in}
-use Rattle.instrumentation.specs.Names.{use_total, definition_total}
-use Rattle.instrumentation_laws.specs.Pieces.{uses_in}
 
 -- the sum of the values that an array's reads gave
 abbrev pub read_sum : ℕ → List Event → ℕ
@@ -26,11 +22,3 @@ pub record Follows (fault : Option Upset) (inputs : Memory) (extents : ℕ → L
   pub memory : m ≡ left_after (accesses_in events) (values_in events) fault inputs (length events)
   pub replays : Replays (accesses_in events) (values_in events) fault inputs
   pub clean : Clean extents (accesses_in events)
-
--- the totals so far: those of the accesses so far, which are these; start gives what the definition totals began with
-pub record Totals (fault : Option Upset) (inputs : Memory) (extents : ℕ → List ℤ) (whole : List Tagged) (start : ℕ → ℕ) (so_far : List Tagged) (s : State) : Type 0 where
-  pub begun : s.begun ≡ true
-  pub made : accesses_in s.accesses ≡ untagged so_far
-  pub used : (a : ℕ) → a < 2 ^ 64 → s.wides (use_total a) ≡ read_sum a s.accesses % 2 ^ 128
-  pub defined : (a : ℕ) → a < 2 ^ 64 → s.wides (definition_total a) ≡ (start a + written_sum (λ n. uses_in whole (Written n)) a 0 s.accesses) % 2 ^ 128
-  pub follows : Follows fault inputs extents s.accesses s.memory

@@ -7,7 +7,7 @@ use Rattle.c_tree.specs.declared.expr.BinOp.{BinOp}
 use Rattle.interp.specs.declared.slots.SignedExpr.{SignedExpr}
 use Rattle.interp.specs.declared.slots.WordExpr.{WordExpr}
 use Rattle.interp.specs.declared.slots.WordExpr.TheVariants as w
-use Rattle.interp.specs.declared.slots.WordExpr.{Cell', Un', Bin', Test', Min', Max'}
+use Rattle.interp.specs.declared.slots.WordExpr.{Cell', Entry', Un', Bin', Test', Min', Max'}
 use Rattle.interp.specs.declared.machine.Machine.{Machine}
 use Rattle.interp.specs.Places.{Placed, place_of}
 use Rattle.interp.specs.Machine.{Act, after, ◌>>=◌, give, found, found_in, finds, loads, stores}
@@ -23,6 +23,7 @@ row_major_no_index rows (x ∷ xs) (w.Index s) at ns h = absurd (h s refl)
 row_major_no_index rows (x ∷ xs) (w.Number n) at ns h = refl
 row_major_no_index rows (x ∷ xs) (w.Word k) at ns h = refl
 row_major_no_index rows (x ∷ xs) (Cell' a q es) at ns h = refl
+row_major_no_index rows (x ∷ xs) (Entry' k q a) at ns h = refl
 row_major_no_index rows (x ∷ xs) (Un' op q a) at ns h = refl
 row_major_no_index rows (x ∷ xs) (Bin' op q a t b) at ns h = refl
 row_major_no_index rows (x ∷ xs) (w.Cast s) at ns h = refl
@@ -67,6 +68,7 @@ module _ (ps : List Placed) (base : ℕ) where
   lists rows (x ∷ xs) (w.Number k ∷ at) ns n h = absurd cc
   lists rows (x ∷ xs) (w.Word k ∷ at) ns n h = absurd cc
   lists rows (x ∷ xs) (Cell' a q es ∷ at) ns n h = absurd cc
+  lists rows (x ∷ xs) (Entry' k q a ∷ at) ns n h = absurd cc
   lists rows (x ∷ xs) (Un' op q a ∷ at) ns n h = absurd cc
   lists rows (x ∷ xs) (Bin' op q a t b ∷ at) ns n h = absurd cc
   lists rows (x ∷ xs) (w.Cast s ∷ at) ns n h = absurd cc

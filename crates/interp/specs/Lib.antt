@@ -1,6 +1,7 @@
 pub mod Names
 pub mod Values
 pub mod Places
+pub mod Tables
 pub mod Machine
 pub mod Signed
 pub mod Meaning
@@ -10,4 +11,3 @@ pub mod Shown
 pub mod Heads
 pub mod Started
 pub mod Finished
-pub mod Flips

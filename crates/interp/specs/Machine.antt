@@ -1,10 +1,11 @@
 -- What a step of the interpreter may come to, and the steps that read and change its state.
-use Rattle.std.specs.Prelude.{◌≡◌, ℕ, ◌+◌, ◌-◌, ◌^◌, min, true, ◌&&◌, if◌then◌else◌, nat_eq, nat_le, bit_xor, List, ℤ, Option, Some, None, Result, Ok, Err, slice_get, slice_set, slice_index}
+use Rattle.std.specs.Prelude.{◌≡◌, ℕ, ◌+◌, ◌-◌, ◌^◌, min, true, ◌&&◌, if◌then◌else◌, nat_eq, nat_le, bit_xor, List, [], ◌∷◌, ◌++◌, replicate, ℤ, Option, Some, None, Result, Ok, Err, slice_get, slice_set, slice_index}
 use Rattle.interp.specs.declared.machine.Machine.{Machine}
 use Rattle.interp.specs.declared.machine.Strike.{Strike}
 use Rattle.interp.specs.declared.stop.Stop.{Stop}
 use Rattle.interp.specs.declared.stop.Stop.TheVariants as stop
 use Rattle.interp.specs.Places.{Placed, place_of}
+use Rattle.interp.specs.Tables.{table_at, with_entry_of}
 
 -- a step goes on with a value, or stops
 pub data Reached (A : Type 0) : Type 0 where
@@ -138,3 +139,22 @@ set_word slot n = changes (with_word slot n)
 
 abbrev pub set_wide : ℕ → ℕ → Act (Unit {0})
 set_wide slot n = changes (with_wide slot n)
+
+-- ---- tables
+
+abbrev pub with_entry : ℕ → ℕ → ℕ → Machine → Machine
+with_entry table i n m = record m { tables = with_entry_of table i n m.tables }
+
+-- a table is made of so many zeros
+abbrev pub with_table : ℕ → ℕ → Machine → Machine
+with_table table n m = record m { tables = slice_set m.tables table (replicate n 0); made = m.made ++ n ∷ [] }
+
+-- past a table's length an entry is 0
+abbrev pub entry_of : ℕ → ℕ → Act ℕ
+entry_of table i = reads (λ m. slice_index (table_at m.tables table) i)
+
+abbrev pub set_entry : ℕ → ℕ → ℕ → Act (Unit {0})
+set_entry table i n = changes (with_entry table i n)
+
+abbrev pub make_table : ℕ → ℕ → Act (Unit {0})
+make_table table n = changes (with_table table n)

@@ -5,7 +5,7 @@ ghost use Rattle.std.specs.Prelude.{◌≡◌, map, nat_lt, if◌then◌else◌}
 ghost use Rattle.c_tree.specs.Values.{word_un, word_bin, word_holds, as_bit};
 ghost use Rattle.interp.specs.Values.{values_in};
 ghost use Rattle.interp.specs.Places.{all_placed};
-ghost use Rattle.interp.specs.Machine.{Tells, after, give, finds, loads};
+ghost use Rattle.interp.specs.Machine.{Tells, after, give, finds, loads, entry_of};
 ghost use Rattle.interp.specs.Meaning as means;
 ghost use Rattle.interp.specs.Meaning.{meaning, coordinates_of, word_of, coordinate_of, wide_of};
 
@@ -38,6 +38,7 @@ impl Machine {
             WordExpr::Number(n) => Some(*n),
             WordExpr::Word(slot) => Some(self.word_at(*slot)),
             WordExpr::Cell(array, at) => self.cell(alloc, scene, why, *array, at),
+            WordExpr::Entry(table, at) => self.entry(alloc, scene, why, *table, at),
             WordExpr::Un(op, a) => self.unary(alloc, scene, why, *op, a),
             WordExpr::Bin(op, a, b) => {
                 let a = self.operand(alloc, scene, why, a)?;
@@ -116,6 +117,23 @@ impl Machine {
         let at = self.coordinates(alloc, scene, why, at)?;
         let place = self.find(scene.places, why, array, at.as_slice())?;
         Some(self.load(place))
+    }
+
+    /// The value of an entry of a table.
+    #[cycle(word)]
+    #[inline(never)]
+    fn entry(
+        &mut self,
+        alloc: Global,
+        scene: &Scene<'_>,
+        why: &mut Stop,
+        table: usize,
+        at: &WordExpr,
+    ) -> Option<u64>
+        ensures { Tells (λ n. n) result why.new self.new (after (word_of (all_placed scene.now.places.now) at.now (values_in scene.now.values) self.old) (λ i. entry_of table i)) }
+    {
+        let at = self.word(alloc, scene, why, at)?;
+        Some(self.entry_at(table, at))
     }
 
     // Each further form has a function of its own, so that the frame of `word` stays small. Of two operands the

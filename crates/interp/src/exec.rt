@@ -6,8 +6,8 @@ ghost use Rattle.c_tree.specs.Values.{count_of, loop_values, word_bin};
 ghost use Rattle.interp.specs.Values.{values_in};
 ghost use Rattle.interp.specs.Places.{all_placed};
 ghost use Rattle.interp.specs.Meaning.{word_of};
-ghost use Rattle.interp.specs.Machine.{Gives, Tells, after, loads, stores};
-ghost use Rattle.interp.specs.Steps.{does, in_order, over, turn, set_word_by, set_wide_by, updated, new_cell, store_by};
+ghost use Rattle.interp.specs.Machine.{Gives, Tells, after, loads, stores, entry_of};
+ghost use Rattle.interp.specs.Steps.{does, in_order, over, turn, set_word_by, set_wide_by, updated, new_cell, store_by, set_entry_by, make_table_by};
 
 use crate::machine::Machine;
 use crate::scene::Scene;
@@ -72,6 +72,13 @@ impl Machine {
                 op,
                 value,
             } => self.assign_cell(alloc, scene, why, *array, at, *op, value),
+            Step::SetEntry {
+                table,
+                at,
+                op,
+                value,
+            } => self.assign_entry(alloc, scene, why, *table, at, *op, value),
+            Step::Table { table, length } => self.make(alloc, scene, why, *table, length),
             Step::Check {
                 word,
                 extent,
@@ -277,6 +284,68 @@ impl Machine {
         let new = self.updated(alloc, scene, why, array, at.as_slice(), op, value)?;
         let place = self.find(scene.places, why, array, at.as_slice())?;
         self.store(place, new);
+        Some(())
+    }
+
+    /// The word that an assignment stores into an entry of a table.
+    fn updated_entry(
+        &mut self,
+        alloc: Global,
+        scene: &Scene<'_>,
+        why: &mut Stop,
+        table: usize,
+        at: u64,
+        op: Option<BinOp>,
+        value: &WordExpr,
+    ) -> Option<u64>
+        ensures { Tells (λ n. n) result why.new self.new (updated word_bin op (entry_of table at) (word_of (all_placed scene.now.places.now) value.now (values_in scene.now.values)) self.old) }
+    {
+        match op {
+            None => self.word(alloc, scene, why, value),
+            Some(op) => {
+                let old = self.entry_at(table, at);
+                Some(words::bin(op, old, self.word(alloc, scene, why, value)?))
+            }
+        }
+    }
+
+    /// Assigns to an entry of a table.
+    #[inline(never)]
+    fn assign_entry(
+        &mut self,
+        alloc: Global,
+        scene: &Scene<'_>,
+        why: &mut Stop,
+        table: usize,
+        at: &WordExpr,
+        op: Option<BinOp>,
+        value: &WordExpr,
+    ) -> Option<()>
+        ensures { Tells (λ u. u) result why.new self.new (set_entry_by (all_placed scene.now.places.now) table at.now op value.now (values_in scene.now.values) self.old) }
+    {
+        let at = self.word(alloc, scene, why, at)?;
+        let new = self.updated_entry(alloc, scene, why, table, at, op, value)?;
+        self.set_entry(table, at, new);
+        Some(())
+    }
+
+    /// Makes a table.
+    #[inline(never)]
+    fn make(
+        &mut self,
+        alloc: Global,
+        scene: &Scene<'_>,
+        why: &mut Stop,
+        table: usize,
+        length: &WordExpr,
+    ) -> Option<()>
+        ensures { Tells (λ u. u) result why.new self.new (make_table_by (all_placed scene.now.places.now) table length.now (values_in scene.now.values) self.old) }
+    {
+        let length = self.word(alloc, scene, why, length)?;
+        if self.make_table(alloc, table, length).is_err() {
+            *why = Stop::NoMemory;
+            return None;
+        }
         Some(())
     }
 

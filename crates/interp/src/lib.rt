@@ -19,6 +19,7 @@ mod slots;
 mod start;
 mod stop;
 mod subscripts;
+mod tables;
 mod values;
 mod words;
 

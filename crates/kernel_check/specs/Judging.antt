@@ -10,7 +10,6 @@ use Rattle.kernel_check.specs.Conditions.{holds}
 use Rattle.acceptance.specs.Printed.{at_head, printed_conditions}
 
 abbrev pub number_of : Refusal → ℕ
-number_of r.Unbuilt = 0
 number_of (r.TextTooLong length) = 1
 number_of (r.Lexical byte) = 2
 number_of (r.Syntax byte) = 3

@@ -5,14 +5,16 @@ use Rattle.std.proofs.lemmas.Bool.{cond-true, and_parts, false≢true}
 use Rattle.c_tree.specs.Plain.{Word, PlainExprs, no_exprs, more_exprs, PlainStmts, no_stmts}
 use Rattle.c_tree.specs.Trees.{stmts_of}
 use Rattle.c_tree.specs.Values.{Vars, is_in, value_in}
-use Rattle.c_tree.specs.Arrays.{Array, extents_at, is_within}
+use Rattle.c_tree.specs.Arrays.{Array, Memory, extents_at, is_within}
 use Rattle.c_tree.specs.Accesses.{Access, Definition, same_definition, latest, uses}
 use Rattle.c_tree.specs.Accesses.Definition.{Initial}
 use Rattle.c_tree.specs.Instances.{Tagged, untagged}
 use Rattle.c_tree.specs.Run.{State, goes_on, and_then, Scope, put, exec_all}
 use Rattle.instrumentation.specs.Names.{coordinate, pass_variable, active, count, counter}
 use Rattle.instrumentation.specs.Passes.{Target, set_word, coordinates_from, cell_piece}
-use Rattle.instrumentation_laws.specs.AccessList.{signed_all, tagged_all}
+use Rattle.instrumentation.specs.Inspects.{inspects_all}
+use Rattle.instrumentation_laws.specs.AccessList.{signed_all}
+use Rattle.instrumentation_laws.specs.IndexedList.{tagged_all}
 use Rattle.instrumentation_laws.specs.PrologueTotals.{coordinate_vars}
 use Rattle.instrumentation_laws.proofs.Names.{same_word, not_in, coordinate_apart, coordinate_not_own}
 use Rattle.instrumentation_laws.proofs.CellLoops.{own_under}
@@ -50,7 +52,7 @@ place_cell cs params o = record {
     other x h j = in_apart params x (coordinate j) h (not_among params (coordinate j) o (coordinate_not_own j))
 
 -- the target of the pass is the cell of these coordinates
-coordinates_are : (es : PlainExprs) (cs : List ℤ) (d : ℕ) (vs : Vars) → rank es ≡ length cs → d + length cs < 2 ^ 64 →
+pub coordinates_are : (es : PlainExprs) (cs : List ℤ) (d : ℕ) (vs : Vars) → rank es ≡ length cs → d + length cs < 2 ^ 64 →
     AreAffine (coordinates_from d es) (coordinate_vars d cs vs) × (signed_all (coordinates_from d es) (coordinate_vars d cs vs) ≡ cs)
 coordinates_are no_exprs [] d vs r l = (tt, refl)
 coordinates_are no_exprs (c ∷ cs) d vs r l = absurd (omega arith)
@@ -78,14 +80,14 @@ owned_first : (list : List Access) (b n a : ℕ) (c cell : List ℤ) → (d : De
 owned_first list b n a c cell d (at_first q) h = (cc, cc)
 owned_first list b n a c cell d (by_write i l w q) h = absurd cc
 
-module _ (sc : Scope) (has : HasCounters sc.wides) (arrays : List Array) (number : Word → ℕ) (body : PlainStmts) (params : Vars) (own_params : AreOwn params) (countable : AreCountable arrays number body params)
-    (short : length (tagged_all number 0 body params) < 2 ^ 63) where
+module _ (sc : Scope) (has : HasCounters sc.wides) (arrays : List Array) (number : Word → ℕ) (m : Memory) (body : PlainStmts) (params : Vars) (own_params : AreOwn params) (countable : AreCountable arrays number body params)
+    (short : length (tagged_all arrays m number 0 body params) < 2 ^ 63) where
   abbrev whole : List Tagged
-  whole = tagged_all number 0 body params
+  whole = tagged_all arrays m number 0 body params
 
-  pub cell_counts : (a : ℕ) (extents : PlainExprs) (cs : List ℤ) (s : State) → rank extents ≡ length (extents_at arrays a) → rank extents < 2 ^ 64 → is_within cs (extents_at arrays a) ≡ true →
+  pub cell_counts : (a : ℕ) (extents : PlainExprs) (cs : List ℤ) (s : State) → inspects_all number a body ≡ false → rank extents ≡ length (extents_at arrays a) → rank extents < 2 ^ 64 → is_within cs (extents_at arrays a) ≡ true →
       GoesTo (λ r. r.wides count ≡ uses (untagged whole) (Initial a cs)) (exec_all sc (stmts_of (cell_piece number body a extents)) (coordinate_vars 0 cs params) s)
-  cell_counts a extents cs s r f w =
+  cell_counts a extents cs s u r f w =
       let long : length cs ≡ length (extents_at arrays a) = within_rank cs (extents_at arrays a) w in
       let target : Target = record { array = a; at = coordinates_from 0 extents } in
       let base : Vars = coordinate_vars 0 cs params in
@@ -98,7 +100,7 @@ module _ (sc : Scope) (has : HasCounters sc.wides) (arrays : List Array) (number
         affine = here.0;
         ranked = coordinates_rank 0 extents ∙ r;
       } in
-      pass_counts sc arrays number body params base countable target is_pass None (Initial a cs)
+      pass_counts sc arrays number m body params base countable target u is_pass None (Initial a cs)
       (λ b n c h. let o : (b ≡ a) × (c ≡ cs) = owned_first (untagged whole) b n a c cs (latest (untagged whole) b c n) (latest_is (untagged whole) b c n) (same_definition-true _ _ h) in (o.0, o.1 ∙ sym here.1))
       (λ n u loops t g w e i o l. first_text loops base t)
       (sym (cond-true _ _ _ (ap (λ c. same_definition (Initial a c) (Initial a cs)) here.1 ∙ same_definition_refl (Initial a cs))))

@@ -1,3 +1,4 @@
+pub mod AffineSubscripts
 pub mod Names
 pub mod Going
 pub mod Quiet
@@ -10,16 +11,16 @@ pub mod Whole
 pub mod QuietPasses
 pub mod Turned
 pub mod Elements
+pub mod Uninspected
+pub mod Targeted
 pub mod Sites
 pub mod Unique
 pub mod Instance
 pub mod Writes
 pub mod Cells
 pub mod Pieces
-pub mod Sample
 pub mod Steady
 pub mod SourceTurns
-pub mod Tables
-pub mod Ready
 pub mod TextTurns
-pub mod UnitTurns
+pub mod Tables
+pub mod Sample

@@ -1,13 +1,13 @@
 -- The run of a source makes its turns, under every fault: its loops and tests don't depend on what memory holds.
-use Rattle.std.proofs.Common.{◌≡◌, ℕ, suc, ◌+◌, Bool, true, false, not, cond, List, [], ◌∷◌, sum_by, refl, sym, ap, ◌∙◌, subst, arith, ℤ, None}
+use Rattle.std.proofs.Common.{◌≡◌, ◌≢◌, ℕ, suc, ◌+◌, Bool, true, false, not, cond, List, [], ◌∷◌, sum_by, refl, sym, ap, ◌∙◌, subst, arith, ℤ, None}
 use Rattle.std.proofs.lemmas.List.Sums.{sum_by-cons}
 use Rattle.c_tree.specs.Plain.{Word, PlainStmt, loop, choice, assign, table, begin, check, verdict, PlainStmts, no_stmts, more_stmts}
 use Rattle.c_tree.specs.Values.{Vars, signed, loop_values}
 use Rattle.c_tree.specs.Arrays.{Array, vars_of}
 use Rattle.c_tree.specs.Inputs.{arrays_for, memory_for}
-use Rattle.run_laws.specs.Laws.{GoesThrough, SourcesFollow}
-use Rattle.instrumentation_laws.specs.RegularUnits.{number_for}
-use Rattle.c_tree.specs.Run.{State, Outcome, goes_on, ends, Run, and_then, Scope, assigned, turn, over, exec, exec_all, is_printed, started, result}
+use Rattle.instrumentation.specs.Names.{number_in}
+use Rattle.instrumentation.specs.Guarded.{array_names}
+use Rattle.c_tree.specs.Run.{State, Outcome, goes_on, ends, plain, struck_at_end, Run, and_then, Scope, assigned, all_hold, turn, over, exec, exec_all, is_printed, started, result}
 use Rattle.instrumentation_laws.specs.AccessList.{tests_hold}
 use Rattle.instrumentation_laws.proofs.Steps.{all_hold_is}
 use Rattle.pass_laws.specs.Countable.{IsCountable, AreCountable}
@@ -15,7 +15,7 @@ use Rattle.pass_laws.specs.Going.{GoesTo, WhereGoing, Turned}
 use Rattle.pass_laws.specs.Laws.{SourcesTurn, UnitsTurn}
 use Rattle.pass_laws.specs.Turns.{turns, turns_all}
 use Rattle.pass_laws.proofs.Steps.{affine_tests}
-use Rattle.pass_laws.proofs.Steady.{Arrives, Steady, calm_assigned}
+use Rattle.pass_laws.proofs.Steady.{Arrives, Steady, calm_assigned, calm_tests}
 use Rattle.pass_laws.proofs.Turned.{Spun, spun_then, spun_none, spun_turn}
 
 pub going_then : {A B : Type 0} (P Q : State → Type 0) (o : Outcome A) (f : A → Run B) → WhereGoing P o → ((a : A) (t : State) → P t → WhereGoing Q (f a t)) → WhereGoing Q (and_then o f)
@@ -78,15 +78,66 @@ module _ (sc : Scope) (arrays : List Array) (number : Word → ℕ) where
 pub sources_turn : SourcesTurn
 sources_turn sc arrays number body vs h s = going_weaker (Spun (turns_all body vs) s) (Turned (turns_all body vs) s) (exec_all sc body vs s) (λ t k. k.turned) (source_turns_all sc arrays number body vs h s)
 
+-- ---- no end is plain
+
+abbrev NeverPlain : {A : Type 0} → Outcome A → Type 0
+NeverPlain (goes_on a t) = Unit {0}
+NeverPlain (ends e t) = e ≢ plain
+
+never_then : {A B : Type 0} (o : Outcome A) (f : A → Run B) → NeverPlain o → ((a : A) (t : State) → NeverPlain (f a t)) → NeverPlain (and_then o f)
+never_then (goes_on a t) f p h = h a t
+never_then (ends e t) f p h = p
+
+never_calm : {A : Type 0} (o : Outcome A) (P : State → Type 0) → Arrives P o → NeverPlain o
+never_calm (goes_on a t) P h = tt
+never_calm (ends e t) P h = h.1
+
+never_turn : (s : State) → NeverPlain (turn s)
+never_turn s = chosen s.begun
+  where
+    chosen : (b : Bool) → NeverPlain (let o : Outcome (Unit {0}) = goes_on tt (cond b (record s { body_turns = s.body_turns + 1 }) (record s { prologue_turns = s.prologue_turns + 1 })) in o)
+    chosen true = tt
+    chosen false = tt
+
+never_over : (f : ℤ → Run (Unit {0})) → ((v : ℤ) (s : State) → NeverPlain (f v s)) → (vals : List ℤ) (s : State) → NeverPlain (over f vals s)
+never_over f h [] s = tt
+never_over f h (v ∷ vals) s = never_then (f v s) (λ u. over f vals) (h v s) (λ u t. never_over f h vals t)
+
+never_if : (b : Bool) (p q : Run (Unit {0})) (s : State) → NeverPlain (p s) → NeverPlain (q s) → NeverPlain (cond b p q s)
+never_if true p q s h g = h
+never_if false p q s h g = g
+
+module _ (sc : Scope) (arrays : List Array) (number : Word → ℕ) where
+  mutual
+    never_plain : (p : PlainStmt) (vs : Vars) → IsCountable arrays number p vs → (s : State) → NeverPlain (exec sc p vs s)
+    never_plain (loop x lo rel hi body) vs h s =
+        never_over (λ v. λ t. and_then (turn t) (λ u. exec_all sc body ((x, v) ∷ vs)))
+        (λ v t. never_then (turn t) (λ u. exec_all sc body ((x, v) ∷ vs)) (never_turn t) (λ u w. all_never_plain body ((x, v) ∷ vs) (h.3 v) w)) (loop_values (signed lo vs) rel (signed hi vs)) s
+    never_plain (choice ts first other) vs h s =
+        never_then (all_hold sc ts vs s) (λ b. cond b (exec_all sc first vs) (exec_all sc other vs)) (never_calm (all_hold sc ts vs s) (Steady s) (calm_tests sc ts vs s))
+        (λ b t. never_if b (exec_all sc first vs) (exec_all sc other vs) t (all_never_plain first vs h.1 t) (all_never_plain other vs h.2 t))
+    never_plain (assign t op e) vs h s = never_calm (assigned sc t op e vs s) (Steady s) (calm_assigned sc t op e vs s)
+    never_plain (table x len) vs h s = absurd h
+    never_plain begin vs h s = absurd h
+    never_plain (check x extent a) vs h s = absurd h
+    never_plain verdict vs h s = absurd h
+
+    all_never_plain : (ps : PlainStmts) (vs : Vars) → AreCountable arrays number ps vs → (s : State) → NeverPlain (exec_all sc ps vs s)
+    all_never_plain no_stmts vs h s = tt
+    all_never_plain (more_stmts p ps) vs h s = never_then (exec sc p vs s) (λ u. exec_all sc ps vs) (never_plain p vs h.0 s) (λ u t. all_never_plain ps vs h.1 t)
+
 -- ---- units
 
-pub units_turn : SourcesFollow → UnitsTurn
-units_turn follow u i h source clean =
+turns_in : (printed : Bool) (sc : Scope) (o : Outcome (Unit {0})) (n : ℕ) (s : State) → sc.fault ≡ None → s.begun ≡ true → s.body_turns ≡ 0 → (result printed sc o).verdict ≡ plain → NeverPlain o → WhereGoing (Turned n s) o → (result printed sc o).body_turns ≡ n
+turns_in printed sc (goes_on u t) n s calm begun none v never h =
+    ap (λ f. (struck_at_end f t).body_turns) calm ∙ h.body ∙ ap (λ b. s.body_turns + cond b n 0) begun ∙ ap (λ k. k + n) none ∙ (let e : 0 + n ≡ n = omega arith in e)
+turns_in printed sc (ends e t) n s calm begun none v never h = absurd (never v)
+
+pub units_turn : UnitsTurn
+units_turn u i h version ends_plain =
     let vs : Vars = vars_of u.params i.ints in
     let sc : Scope = record { arrays = arrays_for u i.ints; wides = u.wides; fault = None } in
     let s : State = started u (memory_for u i) in
-    let n : ℕ = turns_all u.body vs in
-    let begun : s.begun ≡ true = ap (λ v. not (is_printed v)) source.0 in
-    let g : GoesThrough (arrays_for u i.ints) (memory_for u i) u.body vs s (exec_all sc u.body vs s) = follow sc (memory_for u i) u.body vs s refl begun source.1 clean in
-    let t : Turned n s g.to = subst (WhereGoing (Turned n s)) g.goes (sources_turn sc (arrays_for u i.ints) (number_for u) u.body vs h s) in
-    ap (λ (o : Outcome (Unit {0})). (result (is_printed u.version) sc o).body_turns) g.goes ∙ t.body ∙ ap (λ b. 0 + cond b n 0) begun ∙ (let e : 0 + n ≡ n = omega arith in e)
+    turns_in (is_printed u.version) sc (exec_all sc u.body vs s) (turns_all u.body vs) s refl (ap (λ v. not (is_printed v)) version) refl ends_plain
+    (all_never_plain sc (arrays_for u i.ints) (number_in (array_names u.params)) u.body vs h s)
+    (sources_turn sc (arrays_for u i.ints) (number_in (array_names u.params)) u.body vs h s)

@@ -1,5 +1,5 @@
 -- Expressions, tests and assignments make no turn and no table, wherever they go on or end.
-use Rattle.std.proofs.Common.{◌≡◌, ℕ, ◌+◌, ◌*◌, ◌^◌, nat_lt, Bool, true, false, cond, if◌then◌else◌, List, [], ◌∷◌, refl, sym, ◌∙◌, subst, ℤ, pos, Option, Some, None}
+use Rattle.std.proofs.Common.{◌≡◌, ◌≢◌, ℕ, ◌+◌, ◌*◌, ◌^◌, nat_lt, Bool, true, false, cond, if◌then◌else◌, List, [], ◌∷◌, refl, sym, ◌∙◌, subst, ℤ, pos, Option, Some, None}
 use Rattle.std.specs.Prelude.{bytes_eq, slice_index, slice_set}
 use Rattle.std.specs.List.{list_any}
 use Rattle.c_tree.specs.Plain.{PlainExpr, lit, var, cell, un, bin, cast, test, umin, umax, least, greatest, widen, big, PlainExprs, no_exprs, more_exprs, PlainTest}
@@ -7,15 +7,15 @@ use Rattle.c_tree.specs.Values.{Vars, signed, signed_holds, kind, as_word, as_wi
 use Rattle.c_tree.specs.Kinds.{join, is_signed, is_word}
 use Rattle.c_tree.specs.Arrays.{Array, Memory, stored, array_named, is_within}
 use Rattle.c_tree.specs.Fault.{Upset}
-use Rattle.c_tree.specs.Run.{Event, State, Outcome, goes_on, ends, outside, Run, and_then, ◌>>=◌, give, put, Scope, struck, logged, loads, stores, within, by_array, word, coordinates, first_word, wide, updated, set_word, set_wide, set_entry, assigned, holds, all_hold}
+use Rattle.c_tree.specs.Run.{Event, State, Outcome, goes_on, ends, plain, outside, Run, and_then, ◌>>=◌, give, put, Scope, struck, logged, loads, stores, within, by_array, word, coordinates, first_word, wide, updated, set_word, set_wide, set_entry, assigned, holds, all_hold}
 use Rattle.c_tree.specs.Run as run
 use Rattle.c_tree.specs.declared.expr.BinOp.{BinOp}
 use Rattle.instrumentation_laws.proofs.Steps.{struck_is, logged_is}
 
--- where it goes on and where it ends, the state is such a one
+-- where it goes on and where it ends, the state is such a one, and no end is plain
 abbrev pub Arrives : {A : Type 0} → (State → Type 0) → Outcome A → Type 0
 Arrives P (goes_on a t) = P t
-Arrives P (ends e t) = P t
+Arrives P (ends e t) = P t × (e ≢ plain)
 
 -- no turn and no table is made, and the text has begun as before
 pub record Steady (s t : State) : Type 0 where
@@ -32,11 +32,11 @@ steady_then s t u p q = record { begun = q.begun ∙ p.begun; made = q.made ∙ 
 
 pub arrives_then : {A B : Type 0} (P Q : State → Type 0) (o : Outcome A) (f : A → Run B) → Arrives P o → ((t : State) → P t → Q t) → ((a : A) (t : State) → P t → Arrives Q (f a t)) → Arrives Q (and_then o f)
 arrives_then P Q (goes_on a t) f p w h = h a t p
-arrives_then P Q (ends e t) f p w h = w t p
+arrives_then P Q (ends e t) f p w h = (w t p.0, p.1)
 
 pub arrives_weaker : {A : Type 0} (P Q : State → Type 0) (o : Outcome A) → ((t : State) → P t → Q t) → Arrives P o → Arrives Q o
 arrives_weaker P Q (goes_on a t) h p = h t p
-arrives_weaker P Q (ends e t) h p = h t p
+arrives_weaker P Q (ends e t) h p = (h t p.0, p.1)
 
 -- a run is steady from every state
 abbrev pub Calm : {A : Type 0} → Run A → Type 0
@@ -75,7 +75,7 @@ calm_stores sc a cs n s =
     steady_then s u _ (steady_then s t u (steady_struck sc.fault s) (steady_memory (stored t.memory a cs n) t)) (steady_logged a cs true n u)
 
 calm_within : {A : Type 0} (a : ℕ × Array) (cs : List ℤ) (go : ℕ → List ℤ → Run A) → Calm (go a.0 cs) → Calm (within a cs go)
-calm_within a cs go h = calm_if (is_within cs a.1.extents) (go a.0 cs) (λ s. ends (outside a.0) s) h steady_none
+calm_within a cs go h = calm_if (is_within cs a.1.extents) (go a.0 cs) (λ s. ends (outside a.0) s) h (λ s. (steady_none s, λ e. absurd (let f : outside a.0 ≡ plain = e in cc)))
 
 calm_by_array : {A : Type 0} (o : Option (ℕ × Array)) (f : ℕ × Array → Run A) (t : Run A) → ((a : ℕ × Array) → Calm (f a)) → Calm t → Calm (by_array o f t)
 calm_by_array None f t h g = g

@@ -1,73 +1,116 @@
 -- The turns of a whole instrumented text: those of its source, once more for each write of an array, and in the prologue those of the walk over the cells of each array, with the source's for each cell.
-use Rattle.std.proofs.Common.{◌≡◌, ℕ, zero, suc, ◌+◌, ◌*◌, ◌<◌, Bool, true, false, cond, List, [], ◌∷◌, ◌++◌, length, map, flat_map, sum_by, refl, sym, ap, ◌∙◌, subst, arith, ℤ, pos, ◌+ℤ◌, Option, Some, None}
+use Rattle.std.proofs.Common.{◌≡◌, ℕ, zero, suc, ◌+◌, ◌*◌, ◌<◌, Bool, true, false, not, ◌&&◌, cond, List, [], ◌∷◌, ◌++◌, length, map, flat_map, sum_by, refl, sym, ap, ◌∙◌, subst, arith, ℤ, pos, ◌+ℤ◌, Option, Some, None, nat_lt, if◌then◌else◌}
 use Rattle.std.proofs.lemmas.List.{get_or_append_left, get_or-append-add}
 use Rattle.std.proofs.lemmas.List.Sums.{sum_by-cons}
 use Rattle.std.specs.Prelude.{slice_index_or}
 use Rattle.c_tree.specs.Plain.{Word, PlainExpr, lit, var, cell, un, bin, cast, test, umin, umax, least, greatest, widen, big, PlainExprs, no_exprs, more_exprs, PlainStmt, loop, choice, assign, table, begin, check, verdict, PlainStmts, no_stmts, more_stmts, PlainParam, int_param, array_param}
 use Rattle.c_tree.specs.Trees.{stmts_of}
-use Rattle.c_tree.specs.Values.{Vars, signed, loop_values, from_on}
-use Rattle.c_tree.specs.Arrays.{Array, size_of, cell_count, cell_walk, extents_of, arrays_of}
+use Rattle.c_tree.specs.Values.{Vars, signed, as_word, loop_values, from_on}
+use Rattle.c_tree.specs.Arrays.{Array, Memory, size_of, cell_count, cell_walk, extents_of, arrays_of}
 use Rattle.c_tree.specs.Accesses.{Access}
-use Rattle.c_tree.specs.Instances.{Tagged, sites, sites_all}
-use Rattle.c_tree.specs.Run.{State, Outcome, goes_on, ends, Run, and_then, Scope, assigned, turn, over, exec, exec_all}
+use Rattle.c_tree.specs.Instances.{Tagged, untagged, sites, sites_all}
+use Rattle.c_tree.specs.Run.{State, Outcome, goes_on, ends, Run, and_then, Scope, index, done, end_as, assigned, turn, over, exec, exec_all}
 use Rattle.c_tree.specs.declared.expr.BinOp.{BinOp}
 use Rattle.c_tree.specs.declared.expr.Rel.TheVariants.{Lt}
 use Rattle.instrumentation.specs.Names.{result, register, coordinate}
-use Rattle.instrumentation.specs.Body.{reads_in, full, loads_text, pure, add_text, assigned_text, instrument, instrument_all}
-use Rattle.instrumentation.specs.Passes.{Target, pass_text, write_piece, write_pieces, write_pieces_all, piece_at, cell_piece, coordinates_from}
+use Rattle.instrumentation.specs.Body.{reads_in, full, load_text, index_loads, index_checks, by_words, loads_text, pure, add_text, assigned_text, instrument, instrument_all}
+use Rattle.instrumentation.specs.Subscripts.{indices_in}
+use Rattle.instrumentation.proofs.Subscripts.{cell_or_not, not_by_cell}
+use Rattle.instrumentation.specs.Inspects.{inspects_all}
+use Rattle.instrumentation.specs.Passes.{Target, pass_text, coordinates_from}
+use Rattle.instrumentation.specs.Tables.{initial, at_write}
+use Rattle.instrumentation.specs.Pieces.{initial_piece, site_piece, site_pieces_all, piece_at}
 use Rattle.instrumentation.specs.Prologue.{add_cell, cell_loops, cell_text, array_text, prologue_text}
 use Rattle.instrumentation.specs.Guarded.{arrays_with_extents}
-use Rattle.instrumentation_laws.specs.AccessList.{cell_access, cell_reads, cell_write, tag, tests_hold, tagged, tagged_all}
+use Rattle.instrumentation_laws.specs.AccessList.{cell_access, cell_write, tag, tests_hold}
+use Rattle.instrumentation_laws.specs.IndexedList.{index_reads, read_access, all_reads, tagged, tagged_all}
 use Rattle.instrumentation_laws.specs.PrologueTotals.{coordinate_vars, Measures}
 use Rattle.instrumentation_laws.specs.RegularUnits.{AreMeasured}
 use Rattle.instrumentation_laws.proofs.CellLoops.{values_are, measures_more}
 use Rattle.instrumentation_laws.proofs.Names.{coordinate_not_own}
 use Rattle.instrumentation_laws.proofs.Steps.{exec_join, exec_one, all_hold_is}
 use Rattle.pass_laws.specs.Countable.{AllHaveNoCells, AreOwn, IsTarget, IsCountable, AreCountable}
-use Rattle.pass_laws.specs.Going.{GoesTo, WhereGoing, HasCounters}
+use Rattle.pass_laws.specs.Going.{GoesTo, WhereGoing, HasCounters, Turned}
 use Rattle.pass_laws.specs.Places.{IsPlace}
 use Rattle.pass_laws.specs.Turns.{turns, turns_all}
 use Rattle.pass_laws.proofs.Cells.{place_cell}
 use Rattle.pass_laws.proofs.Instance.{place_around}
 use Rattle.pass_laws.proofs.QuietPasses.{all_affine_no_cells, coordinates_free}
-use Rattle.pass_laws.proofs.Sites.{AreNested, pieces_many, pieces_all_many}
-use Rattle.pass_laws.proofs.SourceTurns.{going_then, spun_steady, spun_on, over_turns, body_turn, chosen_turns}
+use Rattle.pass_laws.specs.Targets.{targets, targets_all, target_in}
+use Rattle.pass_laws.specs.TextTurns.{counted_in, BodiesTurn, walks_from, ProloguesTurn}
+use Rattle.pass_laws.proofs.Targeted.{piece_of}
+use Rattle.pass_laws.proofs.Sites.{AreNested, targets_many, targets_all_many}
+use Rattle.pass_laws.proofs.SourceTurns.{going_then, going_weaker, spun_steady, spun_on, over_turns, body_turn, chosen_turns}
 use Rattle.pass_laws.proofs.Steady.{calm_assigned}
 use Rattle.pass_laws.proofs.Steps.{affine_tests}
 use Rattle.pass_laws.proofs.Turned.{Spun, spun_none, pass_turns}
 
 -- ---- sums
 
--- how many accesses write
-abbrev pub writes_in : List Tagged → ℕ
-writes_in [] = 0
-writes_in (t ∷ ts) = cond t.access.writes 1 0 + writes_in ts
+module _ (insp : ℕ → Bool) where
+  -- how many accesses write an array that isn't inspected
+  abbrev pub writes_in : List Tagged → ℕ
+  writes_in [] = 0
+  writes_in (t ∷ ts) = cond (t.access.writes && not (insp t.access.array)) 1 0 + writes_in ts
 
-writes_join : (xs ys : List Tagged) → writes_in (xs ++ ys) ≡ writes_in xs + writes_in ys
-writes_join [] ys = omega arith
-writes_join (x ∷ xs) ys = (let h = writes_join xs ys in omega arith)
+  pub writes_join : (xs ys : List Tagged) → writes_in (xs ++ ys) ≡ writes_in xs + writes_in ys
+  writes_join [] ys = omega arith
+  writes_join (x ∷ xs) ys = (let h = writes_join xs ys in omega arith)
 
-writes_if : (b : Bool) (xs ys : List Tagged) → writes_in (cond b xs ys) ≡ cond b (writes_in xs) (writes_in ys)
-writes_if true xs ys = refl
-writes_if false xs ys = refl
+  writes_if : (b : Bool) (xs ys : List Tagged) → writes_in (cond b xs ys) ≡ cond b (writes_in xs) (writes_in ys)
+  writes_if true xs ys = refl
+  writes_if false xs ys = refl
+
+  -- the turns of a loop, with those for the writes in it
+  sum_split : (n : ℤ → ℕ) (list : ℤ → List Tagged) (t : ℕ) (vals : List ℤ) → sum_by (λ v. suc (n v + t * writes_in (list v))) vals ≡ sum_by (λ v. suc (n v)) vals + t * writes_in (flat_map list vals)
+  sum_split n list t [] = omega arith
+  sum_split n list t (v ∷ vals) =
+      let a = sum_by-cons (λ v. suc (n v + t * writes_in (list v))) v vals in
+      let b = sum_by-cons (λ v. suc (n v)) v vals in
+      let c : t * writes_in (list v ++ flat_map list vals) ≡ t * writes_in (list v) + t * writes_in (flat_map list vals) = ap (λ k. t * k) (writes_join (list v) (flat_map list vals)) ∙ spread t (writes_in (list v)) (writes_in (flat_map list vals)) in
+      let d = sum_split n list t vals in
+      a ∙ (let e : suc (n v + t * writes_in (list v)) + sum_by (λ v. suc (n v + t * writes_in (list v))) vals ≡ (suc (n v) + sum_by (λ v. suc (n v)) vals) + (t * writes_in (list v) + t * writes_in (flat_map list vals)) = omega arith in e) ∙
+      ap (λ k. k + (t * writes_in (list v) + t * writes_in (flat_map list vals))) (sym b) ∙ ap (λ k. sum_by (λ v. suc (n v)) (v ∷ vals) + k) (sym c)
+    where
+      spread : (t a b : ℕ) → t * (a + b) ≡ t * a + t * b
+      spread t a b = grind arith
+
+  -- ---- the writes of an assignment
+
+  two_write : (k : ℕ) (us : Vars) (xs ys : List Access) → writes_in (map (tag k us) xs) ≡ 0 → writes_in (map (tag k us) ys) ≡ 0 → writes_in (map (tag k us) (xs ++ ys)) ≡ 0
+  two_write k us [] ys h g = g
+  two_write k us (x ∷ xs) ys h g = (let r : writes_in (map (tag k us) (xs ++ ys)) ≡ 0 = two_write k us xs ys (omega arith) g in omega arith)
+
+  indices_write : (number : Word → ℕ) (k : ℕ) (at : PlainExprs) (vs us : Vars) → writes_in (map (tag k us) (index_reads number at vs)) ≡ 0
+  indices_write number k no_exprs vs us = refl
+  indices_write number k (more_exprs e es) vs us =
+      cell_or_not (λ e. writes_in (map (tag k us) (index_reads number (more_exprs e es) vs)) ≡ 0)
+      (λ p at. two_write k us (cell_access number p at vs false ∷ []) (index_reads number es vs) refl (indices_write number k es vs us))
+      (λ e other. ap (λ l. writes_in (map (tag k us) l)) (not_by_cell e (λ p at. cell_access number p at vs false ∷ index_reads number es vs) (index_reads number es vs) other) ∙ indices_write number k es vs us)
+      e
+
+  reads_write : (arrays : List Array) (m : Memory) (number : Word → ℕ) (k : ℕ) (e : PlainExpr) (vs us : Vars) → writes_in (map (tag k us) (all_reads arrays m number e vs)) ≡ 0
+  reads_write arrays m number k (lit n) vs us = refl
+  reads_write arrays m number k (var x) vs us = refl
+  reads_write arrays m number k (cell x at) vs us = two_write k us (index_reads number at vs) (read_access arrays m number x at vs ∷ []) (indices_write number k at vs us) refl
+  reads_write arrays m number k (un op a) vs us = reads_write arrays m number k a vs us
+  reads_write arrays m number k (bin op a b) vs us = two_write k us (all_reads arrays m number a vs) (all_reads arrays m number b vs) (reads_write arrays m number k a vs us) (reads_write arrays m number k b vs us)
+  reads_write arrays m number k (cast a) vs us = reads_write arrays m number k a vs us
+  reads_write arrays m number k (test rel a b) vs us = two_write k us (all_reads arrays m number a vs) (all_reads arrays m number b vs) (reads_write arrays m number k a vs us) (reads_write arrays m number k b vs us)
+  reads_write arrays m number k (umin a b) vs us = two_write k us (all_reads arrays m number a vs) (all_reads arrays m number b vs) (reads_write arrays m number k a vs us) (reads_write arrays m number k b vs us)
+  reads_write arrays m number k (umax a b) vs us = two_write k us (all_reads arrays m number a vs) (all_reads arrays m number b vs) (reads_write arrays m number k a vs us) (reads_write arrays m number k b vs us)
+  reads_write arrays m number k (least a b) vs us = refl
+  reads_write arrays m number k (greatest a b) vs us = refl
+  reads_write arrays m number k (widen a) vs us = refl
+  reads_write arrays m number k (big high low) vs us = refl
+
+  one_write : (k : ℕ) (us : Vars) (xs : List Access) (x : Access) → x.writes ≡ true → writes_in (map (tag k us) xs) ≡ 0 → writes_in (map (tag k us) (xs ++ x ∷ [])) ≡ cond (not (insp x.array)) 1 0
+  one_write k us [] x w h = ap (λ b. cond (b && not (insp x.array)) 1 0 + 0) w ∙ omega arith
+  one_write k us (y ∷ xs) x w h = (let r : writes_in (map (tag k us) (xs ++ x ∷ [])) ≡ cond (not (insp x.array)) 1 0 = one_write k us xs x w (omega arith) in omega arith)
 
 turns_if : (b : Bool) (n m k j t : ℕ) → cond b (n + t * k) (m + t * j) ≡ cond b n m + t * cond b k j
 turns_if true n m k j t = refl
 turns_if false n m k j t = refl
-
--- the turns of a loop, with those for the writes in it
-sum_split : (n : ℤ → ℕ) (list : ℤ → List Tagged) (t : ℕ) (vals : List ℤ) → sum_by (λ v. suc (n v + t * writes_in (list v))) vals ≡ sum_by (λ v. suc (n v)) vals + t * writes_in (flat_map list vals)
-sum_split n list t [] = omega arith
-sum_split n list t (v ∷ vals) =
-    let a = sum_by-cons (λ v. suc (n v + t * writes_in (list v))) v vals in
-    let b = sum_by-cons (λ v. suc (n v)) v vals in
-    let c : t * writes_in (list v ++ flat_map list vals) ≡ t * writes_in (list v) + t * writes_in (flat_map list vals) = ap (λ k. t * k) (writes_join (list v) (flat_map list vals)) ∙ spread t (writes_in (list v)) (writes_in (flat_map list vals)) in
-    let d = sum_split n list t vals in
-    a ∙ (let e : suc (n v + t * writes_in (list v)) + sum_by (λ v. suc (n v + t * writes_in (list v))) vals ≡ (suc (n v) + sum_by (λ v. suc (n v)) vals) + (t * writes_in (list v) + t * writes_in (flat_map list vals)) = omega arith in e) ∙
-    ap (λ k. k + (t * writes_in (list v) + t * writes_in (flat_map list vals))) (sym b) ∙ ap (λ k. sum_by (λ v. suc (n v)) (v ∷ vals) + k) (sym c)
-  where
-    spread : (t a b : ℕ) → t * (a + b) ≡ t * a + t * b
-    spread t a b = grind arith
 
 sum_same : (k : ℕ) (lo : ℤ) (n : ℕ) → sum_by (λ v. suc k) (from_on lo n) ≡ n + n * k
 sum_same k lo zero = omega arith
@@ -93,9 +136,10 @@ module _ (sc : Scope) where
   one_turns : (p : PlainStmt) (n : ℕ) (vs : Vars) (s : State) → WhereGoing (Spun n s) (exec sc p vs s) → WhereGoing (Spun n s) (exec_all sc (stmts_of (p ∷ [])) vs s)
   one_turns p n vs s h = subst (WhereGoing (Spun n s)) (sym (exec_one sc p vs s)) h
 
-  -- assignments make no turn
+  -- assignments and checks make no turn
   abbrev IsAssign : PlainStmt → Type 0
   IsAssign (assign t op e) = Unit {0}
+  IsAssign (check x extent a) = Unit {0}
   IsAssign _ = ⊥
 
   abbrev AreAssigns : List PlainStmt → Type 0
@@ -115,103 +159,119 @@ module _ (sc : Scope) where
   assigns_turns (choice ts first other ∷ ss) h vs s = absurd h.0
   assigns_turns (table x len ∷ ss) h vs s = absurd h.0
   assigns_turns (begin ∷ ss) h vs s = absurd h.0
-  assigns_turns (check x extent a ∷ ss) h vs s = absurd h.0
+  assigns_turns (check x extent a ∷ ss) h vs s = checked (nat_lt (s.words x) (as_word (signed extent vs))) (assigns_turns ss h.1 vs s)
+    where
+      checked : (b : Bool) → WhereGoing (Spun 0 s) (exec_all sc (stmts_of ss) vs s) → WhereGoing (Spun 0 s) (and_then ((if b then done else end_as (index a)) s) (λ u. exec_all sc (stmts_of ss) vs))
+      checked true k = k
+      checked false k = tt
   assigns_turns (verdict ∷ ss) h vs s = absurd h.0
 
-  loads_assign : (number : Word → ℕ) (e : PlainExpr) (j : ℕ) → AreAssigns (loads_text number e j)
-  loads_assign number (lit n) j = tt
-  loads_assign number (var x) j = tt
-  loads_assign number (cell x at) j = (tt, (tt, tt))
-  loads_assign number (un op a) j = loads_assign number a j
-  loads_assign number (bin op a b) j = assigns_join (loads_text number a j) (loads_text number b (j + reads_in a)) (loads_assign number a j) (loads_assign number b (j + reads_in a))
-  loads_assign number (cast a) j = loads_assign number a j
-  loads_assign number (test rel a b) j = assigns_join (loads_text number a j) (loads_text number b (j + reads_in a)) (loads_assign number a j) (loads_assign number b (j + reads_in a))
-  loads_assign number (umin a b) j = assigns_join (loads_text number a j) (loads_text number b (j + reads_in a)) (loads_assign number a j) (loads_assign number b (j + reads_in a))
-  loads_assign number (umax a b) j = assigns_join (loads_text number a j) (loads_text number b (j + reads_in a)) (loads_assign number a j) (loads_assign number b (j + reads_in a))
-  loads_assign number (least a b) j = tt
-  loads_assign number (greatest a b) j = tt
-  loads_assign number (widen a) j = tt
-  loads_assign number (big high low) j = tt
+  module _ (number : Word → ℕ) where
+    index_loads_assign : (at : PlainExprs) (j : ℕ) → AreAssigns (index_loads number at j)
+    index_loads_assign no_exprs j = tt
+    index_loads_assign (more_exprs e es) j =
+        cell_or_not (λ e. AreAssigns (index_loads number (more_exprs e es) j))
+        (λ x at. assigns_join (load_text (number x) x at j) (index_loads number es (j + 1)) (tt, (tt, tt)) (index_loads_assign es (j + 1)))
+        (λ e other. subst AreAssigns (sym (not_by_cell e (λ x at. load_text (number x) x at j ++ index_loads number es (j + 1)) (index_loads number es j) other)) (index_loads_assign es j))
+        e
 
--- ---- the writes of an assignment
+    checks_assign : (a : ℕ) (at ns : PlainExprs) (j : ℕ) → AreAssigns (index_checks a at ns j)
+    checks_assign a no_exprs ns j = tt
+    checks_assign a (more_exprs e es) no_exprs j = tt
+    checks_assign a (more_exprs e es) (more_exprs n ns) j =
+        cell_or_not (λ e. AreAssigns (index_checks a (more_exprs e es) (more_exprs n ns) j))
+        (λ x at. (tt, checks_assign a es ns (j + 1)))
+        (λ e other. subst AreAssigns (sym (not_by_cell e (λ x at. check (register j) n a ∷ index_checks a es ns (j + 1)) (index_checks a es ns j) other)) (checks_assign a es ns j))
+        e
 
-two_write : (k : ℕ) (us : Vars) (xs ys : List Access) → writes_in (map (tag k us) xs) ≡ 0 → writes_in (map (tag k us) ys) ≡ 0 → writes_in (map (tag k us) (xs ++ ys)) ≡ 0
-two_write k us [] ys h g = g
-two_write k us (x ∷ xs) ys h g = (let r : writes_in (map (tag k us) (xs ++ ys)) ≡ 0 = two_write k us xs ys (omega arith) g in omega arith)
-
-reads_write : (number : Word → ℕ) (k : ℕ) (e : PlainExpr) (vs us : Vars) → writes_in (map (tag k us) (cell_reads number e vs)) ≡ 0
-reads_write number k (lit n) vs us = refl
-reads_write number k (var x) vs us = refl
-reads_write number k (cell x at) vs us = refl
-reads_write number k (un op a) vs us = reads_write number k a vs us
-reads_write number k (bin op a b) vs us = two_write k us (cell_reads number a vs) (cell_reads number b vs) (reads_write number k a vs us) (reads_write number k b vs us)
-reads_write number k (cast a) vs us = reads_write number k a vs us
-reads_write number k (test rel a b) vs us = two_write k us (cell_reads number a vs) (cell_reads number b vs) (reads_write number k a vs us) (reads_write number k b vs us)
-reads_write number k (umin a b) vs us = two_write k us (cell_reads number a vs) (cell_reads number b vs) (reads_write number k a vs us) (reads_write number k b vs us)
-reads_write number k (umax a b) vs us = two_write k us (cell_reads number a vs) (cell_reads number b vs) (reads_write number k a vs us) (reads_write number k b vs us)
-reads_write number k (least a b) vs us = refl
-reads_write number k (greatest a b) vs us = refl
-reads_write number k (widen a) vs us = refl
-reads_write number k (big high low) vs us = refl
-
-one_write : (k : ℕ) (us : Vars) (xs : List Access) (x : Access) → x.writes ≡ true → writes_in (map (tag k us) xs) ≡ 0 → writes_in (map (tag k us) (xs ++ x ∷ [])) ≡ 1
-one_write k us [] x w h = ap (λ b. cond b 1 0 + 0) w
-one_write k us (y ∷ xs) x w h = (let r : writes_in (map (tag k us) (xs ++ x ∷ [])) ≡ 1 = one_write k us xs x w (omega arith) in omega arith)
+  loads_assign : (number : Word → ℕ) (texts : Word → PlainExprs) (e : PlainExpr) (j : ℕ) → AreAssigns (loads_text number texts e j)
+  loads_assign number texts (lit n) j = tt
+  loads_assign number texts (var x) j = tt
+  loads_assign number texts (cell x at) j =
+      assigns_join (index_loads number at j) (index_checks (number x) at (texts x) j ++ load_text (number x) x (by_words at j) (j + indices_in at)) (index_loads_assign number at j)
+      (assigns_join (index_checks (number x) at (texts x) j) (load_text (number x) x (by_words at j) (j + indices_in at)) (checks_assign number (number x) at (texts x) j) (tt, (tt, tt)))
+  loads_assign number texts (un op a) j = loads_assign number texts a j
+  loads_assign number texts (bin op a b) j = assigns_join (loads_text number texts a j) (loads_text number texts b (j + reads_in a)) (loads_assign number texts a j) (loads_assign number texts b (j + reads_in a))
+  loads_assign number texts (cast a) j = loads_assign number texts a j
+  loads_assign number texts (test rel a b) j = assigns_join (loads_text number texts a j) (loads_text number texts b (j + reads_in a)) (loads_assign number texts a j) (loads_assign number texts b (j + reads_in a))
+  loads_assign number texts (umin a b) j = assigns_join (loads_text number texts a j) (loads_text number texts b (j + reads_in a)) (loads_assign number texts a j) (loads_assign number texts b (j + reads_in a))
+  loads_assign number texts (umax a b) j = assigns_join (loads_text number texts a j) (loads_text number texts b (j + reads_in a)) (loads_assign number texts a j) (loads_assign number texts b (j + reads_in a))
+  loads_assign number texts (least a b) j = tt
+  loads_assign number texts (greatest a b) j = tt
+  loads_assign number texts (widen a) j = tt
+  loads_assign number texts (big high low) j = tt
 
 -- ---- the body
 
 module _ (sc : Scope) (has : HasCounters sc.wides) (arrays : List Array) (number : Word → ℕ) (params : Vars) (own_params : AreOwn params) (whole : PlainStmts) (countable : AreCountable arrays number whole params) where
+  abbrev insp : ℕ → Bool
+  insp a = inspects_all number a whole
+
   abbrev of_pass : ℕ
   of_pass = turns_all whole params
 
   -- a pass at a place
-  piece_turns : (target : Target) (site : Option ℕ) (base : Vars) (s : State) → AllHaveNoCells target.at → IsPlace params base → WhereGoing (Spun of_pass s) (exec_all sc (stmts_of (pass_text number whole target site)) base s)
-  piece_turns target site base s free place =
-      gone of_pass s (exec_all sc (stmts_of (pass_text number whole target site)) base s) (pass_turns sc has arrays number params base place own_params target free site whole s countable)
+  piece_turns : (target : Target) (site : Option ℕ) (base : Vars) (s : State) → AllHaveNoCells target.at → IsPlace params base → insp target.array ≡ false → WhereGoing (Spun of_pass s) (exec_all sc (stmts_of (pass_text number whole target site)) base s)
+  piece_turns target site base s free place plain =
+      gone of_pass s (exec_all sc (stmts_of (pass_text number whole target site)) base s) (pass_turns sc has arrays number params base place own_params target free site whole s countable plain)
 
-  module _ (pieces : ℕ → List PlainStmt) where
-    -- the pieces of so many assignments from number k on are these
-    abbrev Stand : ℕ → ℕ → List (List PlainStmt) → Type 0
-    Stand k n part = (j : ℕ) → j < n → pieces (k + j) ≡ piece_at part j
+  module _ (m : Memory) (texts : Word → PlainExprs) (pieces : ℕ → List PlainStmt) where
+    -- the pieces of so many assignments from number k on are those of these targets
+    abbrev Stand : ℕ → ℕ → List PlainExpr → Type 0
+    Stand k n part = (j : ℕ) → j < n → pieces (k + j) ≡ site_piece number texts whole (k + j) (target_in part j)
 
-    stand_left : (k n m : ℕ) (ps qs : List (List PlainStmt)) → length ps ≡ n → Stand k (n + m) (ps ++ qs) → Stand k n ps
-    stand_left k n m ps qs l h j below = h j (omega arith) ∙ get_or_append_left ps qs [] j (omega arith)
+    stand_left : (k n m : ℕ) (ps qs : List PlainExpr) → length ps ≡ n → Stand k (n + m) (ps ++ qs) → Stand k n ps
+    stand_left k n m ps qs l h j below = h j (omega arith) ∙ ap (site_piece number texts whole (k + j)) (get_or_append_left ps qs (lit 0) j (omega arith))
 
-    stand_right : (k n m : ℕ) (ps qs : List (List PlainStmt)) → length ps ≡ n → Stand k (n + m) (ps ++ qs) → Stand (k + n) m qs
+    stand_right : (k n m : ℕ) (ps qs : List PlainExpr) → length ps ≡ n → Stand k (n + m) (ps ++ qs) → Stand (k + n) m qs
     stand_right k n m ps qs l h j below =
-        ap pieces (let e : k + n + j ≡ k + (n + j) = omega arith in e) ∙ h (n + j) (omega arith) ∙ subst (λ i. slice_index_or (ps ++ qs) (i + j) [] ≡ piece_at qs j) l (get_or-append-add ps qs j [])
+        let e : k + n + j ≡ k + (n + j) = omega arith in
+        ap pieces e ∙ h (n + j) (omega arith) ∙ ap (site_piece number texts whole (k + (n + j))) (subst (λ i. slice_index_or (ps ++ qs) (i + j) (lit 0) ≡ target_in qs j) l (get_or-append-add ps qs j (lit 0))) ∙
+        ap (λ i. site_piece number texts whole i (target_in qs j)) (sym e)
 
     abbrev Turns : ℕ → ℕ → List Tagged → State → Outcome (Unit {0}) → Type 0
-    Turns k n list s o = WhereGoing (Spun (n + of_pass * writes_in list) s) o
+    Turns k n list s o = WhereGoing (Spun (n + of_pass * writes_in insp list) s) o
 
-    assign_turns : (t : PlainExpr) (op : Option BinOp) (e : PlainExpr) (k : ℕ) (loops : Vars) (s : State) → IsTarget arrays number t (loops ++ params) → IsPlace params (loops ++ params) → Stand k 1 (write_piece number whole k t ∷ []) →
-        Turns k 0 (map (tag k (loops ++ params)) (cell_reads number (full t op e) (loops ++ params) ++ cell_write number t (loops ++ params))) s
-        (exec_all sc (stmts_of (assigned_text number (pieces k) t (full t op e))) (loops ++ params) s)
+    -- the piece of an assignment to a cell makes no turn where it takes its count from a table
+    cell_turns : (k : ℕ) (x : Word) (at : PlainExprs) (vs : Vars) (u : State) → AllHaveNoCells at → IsPlace params vs → WhereGoing (Spun (of_pass * cond (not (insp (number x))) 1 0) u) (exec_all sc (stmts_of (site_piece number texts whole k (cell x at))) vs u)
+    cell_turns k x at vs u free place = chosen (insp (number x)) refl
+      where
+        chosen : (b : Bool) → insp (number x) ≡ b →
+            WhereGoing (Spun (of_pass * cond (not b) 1 0) u) (exec_all sc (stmts_of (cond b (at_write (number x) (texts x)) (pass_text number whole (record { array = number x; at = at }) (Some k)))) vs u)
+        chosen true e = subst (λ n. WhereGoing (Spun n u) (exec_all sc (stmts_of (at_write (number x) (texts x))) vs u)) (none of_pass) (assigns_turns sc (at_write (number x) (texts x)) (tt, (tt, tt)) vs u)
+          where
+            none : (t : ℕ) → 0 ≡ t * 0
+            none t = omega arith
+        chosen false e = subst (λ n. WhereGoing (Spun n u) (exec_all sc (stmts_of (pass_text number whole (record { array = number x; at = at }) (Some k))) vs u)) (once of_pass) (piece_turns (record { array = number x; at = at }) (Some k) vs u free place e)
+          where
+            once : (t : ℕ) → t ≡ t * 1
+            once t = omega arith
+
+    assign_turns : (t : PlainExpr) (op : Option BinOp) (e : PlainExpr) (k : ℕ) (loops : Vars) (s : State) → IsTarget arrays number t (loops ++ params) → IsPlace params (loops ++ params) → Stand k 1 (t ∷ []) →
+        Turns k 0 (map (tag k (loops ++ params)) (all_reads arrays m number (full t op e) (loops ++ params) ++ cell_write number t (loops ++ params))) s
+        (exec_all sc (stmts_of (assigned_text number texts (pieces k) t (full t op e))) (loops ++ params) s)
     assign_turns (var x) op e k loops s t place stand =
         let vs : Vars = loops ++ params in
         let v : PlainExpr = full (var x) op e in
-        let w : writes_in (map (tag k vs) (cell_reads number v vs ++ [])) ≡ 0 = two_write k vs (cell_reads number v vs) [] (reads_write number k v vs vs) refl in
-        subst (λ n. WhereGoing (Spun n s) (exec_all sc (stmts_of (assigned_text number (pieces k) (var x) v)) vs s)) (none of_pass _ w)
-        (assigns_turns sc (assigned_text number (pieces k) (var x) v) (assigns_join sc (loads_text number v 0) (assign (var x) None (pure v 0) ∷ []) (loads_assign sc number v 0) (tt, tt)) vs s)
+        let w : writes_in insp (map (tag k vs) (all_reads arrays m number v vs ++ [])) ≡ 0 = two_write insp k vs (all_reads arrays m number v vs) [] (reads_write insp arrays m number k v vs vs) refl in
+        subst (λ n. WhereGoing (Spun n s) (exec_all sc (stmts_of (assigned_text number texts (pieces k) (var x) v)) vs s)) (none of_pass _ w)
+        (assigns_turns sc (assigned_text number texts (pieces k) (var x) v) (assigns_join sc (loads_text number texts v 0) (assign (var x) None (pure v 0) ∷ []) (loads_assign sc number texts v 0) (tt, tt)) vs s)
       where
         none : (t n : ℕ) → n ≡ 0 → 0 ≡ 0 + t * n
         none t n h = rw h (omega arith)
     assign_turns (cell x at) op e k loops s t place stand =
         let vs : Vars = loops ++ params in
         let v : PlainExpr = full (cell x at) op e in
-        let target : Target = record { array = number x; at = at } in
-        let w : writes_in (map (tag k vs) (cell_reads number v vs ++ cell_access number x at vs true ∷ [])) ≡ 1 = one_write k vs (cell_reads number v vs) (cell_access number x at vs true) refl (reads_write number k v vs vs) in
+        let many : ℕ = of_pass * cond (not (insp (number x))) 1 0 in
+        let w : writes_in insp (map (tag k vs) (all_reads arrays m number v vs ++ cell_access number x at vs true ∷ [])) ≡ cond (not (insp (number x))) 1 0 = one_write insp k vs (all_reads arrays m number v vs) (cell_access number x at vs true) refl (reads_write insp arrays m number k v vs vs) in
         let stores : List PlainStmt = assign (var result) None (pure v 0) ∷ assign (cell x at) None (var result) ∷ [] in
-        let piece : pieces k ≡ pass_text number whole target (Some k) = ap pieces (let e : k ≡ k + 0 = omega arith in e) ∙ stand 0 (omega arith) in
-        subst (λ n. WhereGoing (Spun n s) (exec_all sc (stmts_of (assigned_text number (pieces k) (cell x at) v)) vs s)) (once of_pass _ w)
-        (join_turns sc (loads_text number v 0) (stores ++ (pieces k ++ add_text (number x))) 0 (0 + (of_pass + 0)) vs s (assigns_turns sc (loads_text number v 0) (loads_assign sc number v 0) vs s)
-        (λ y. join_turns sc stores (pieces k ++ add_text (number x)) 0 (of_pass + 0) vs y (assigns_turns sc stores (tt, (tt, tt)) vs y)
-        (λ u. join_turns sc (pieces k) (add_text (number x)) of_pass 0 vs u
-        (subst (λ p. WhereGoing (Spun of_pass u) (exec_all sc (stmts_of p) vs u)) (sym piece) (piece_turns target (Some k) vs u (all_affine_no_cells at vs t.affine) place))
+        let piece : pieces k ≡ site_piece number texts whole k (cell x at) = ap pieces (let e : k ≡ k + 0 = omega arith in e) ∙ stand 0 (omega arith) ∙ ap (λ i. site_piece number texts whole i (cell x at)) (let e : k + 0 ≡ k = omega arith in e) in
+        subst (λ n. WhereGoing (Spun n s) (exec_all sc (stmts_of (assigned_text number texts (pieces k) (cell x at) v)) vs s)) ((let z : 0 + (0 + (many + 0)) ≡ 0 + many = omega arith in z) ∙ ap (λ n. 0 + of_pass * n) (sym w))
+        (join_turns sc (loads_text number texts v 0) (stores ++ (pieces k ++ add_text (number x))) 0 (0 + (many + 0)) vs s (assigns_turns sc (loads_text number texts v 0) (loads_assign sc number texts v 0) vs s)
+        (λ y. join_turns sc stores (pieces k ++ add_text (number x)) 0 (many + 0) vs y (assigns_turns sc stores (tt, (tt, tt)) vs y)
+        (λ u. join_turns sc (pieces k) (add_text (number x)) many 0 vs u
+        (subst (λ p. WhereGoing (Spun many u) (exec_all sc (stmts_of p) vs u)) (sym piece) (cell_turns k x at vs u (all_affine_no_cells at vs t.affine) place))
         (λ y. assigns_turns sc (add_text (number x)) (tt, tt) vs y))))
-      where
-        once : (t n : ℕ) → n ≡ 1 → 0 + (0 + (t + 0)) ≡ 0 + t * n
-        once t n h = rw h (omega arith)
     assign_turns (lit n) op e k loops s t place stand = absurd t
     assign_turns (un o a) op e k loops s t place stand = absurd t
     assign_turns (bin o a b) op e k loops s t place stand = absurd t
@@ -225,32 +285,32 @@ module _ (sc : Scope) (has : HasCounters sc.wides) (arrays : List Array) (number
     assign_turns (big high low) op e k loops s t place stand = absurd t
 
     mutual
-      one_turned : (p : PlainStmt) (k : ℕ) (loops : Vars) (s : State) → IsCountable arrays number p (loops ++ params) → AreOwn loops → AreNested loops params → Stand k (sites p) (write_pieces number whole k p) →
-          Turns k (turns p (loops ++ params)) (tagged number k p (loops ++ params)) s (exec_all sc (stmts_of (instrument number pieces k p)) (loops ++ params) s)
+      one_turned : (p : PlainStmt) (k : ℕ) (loops : Vars) (s : State) → IsCountable arrays number p (loops ++ params) → AreOwn loops → AreNested loops params → Stand k (sites p) (targets p) →
+          Turns k (turns p (loops ++ params)) (tagged arrays m number k p (loops ++ params)) s (exec_all sc (stmts_of (instrument number texts pieces k p)) (loops ++ params) s)
       one_turned (loop x lo rel hi body) k loops s h o n stand =
           let vs : Vars = loops ++ params in
-          let text : PlainStmts = stmts_of (instrument_all number pieces k body) in
-          let m : ℤ → ℕ = λ v. turns_all body ((x, v) ∷ vs) in
-          let list : ℤ → List Tagged = λ v. tagged_all number k body ((x, v) ∷ vs) in
+          let text : PlainStmts = stmts_of (instrument_all number texts pieces k body) in
+          let n' : ℤ → ℕ = λ v. turns_all body ((x, v) ∷ vs) in
+          let list : ℤ → List Tagged = λ v. tagged_all arrays m number k body ((x, v) ∷ vs) in
           one_turns sc (loop x lo rel hi text) _ vs s
-          (subst (λ j. WhereGoing (Spun j s) (exec sc (loop x lo rel hi text) vs s)) (sum_split m list of_pass (loop_values (signed lo vs) rel (signed hi vs)))
-          (over_turns sc arrays number (λ v. λ t. and_then (turn t) (λ u. exec_all sc text ((x, v) ∷ vs))) (λ v. suc (m v + of_pass * writes_in (list v)))
-          (λ v. body_turn sc arrays number text ((x, v) ∷ vs) (m v + of_pass * writes_in (list v)) (λ t. all_turned body k ((x, v) ∷ loops) t (h.3 v) (h.2.own_name, o) (h.2.fresh, n) stand))
+          (subst (λ j. WhereGoing (Spun j s) (exec sc (loop x lo rel hi text) vs s)) (sum_split insp n' list of_pass (loop_values (signed lo vs) rel (signed hi vs)))
+          (over_turns sc arrays number (λ v. λ t. and_then (turn t) (λ u. exec_all sc text ((x, v) ∷ vs))) (λ v. suc (n' v + of_pass * writes_in insp (list v)))
+          (λ v. body_turn sc arrays number text ((x, v) ∷ vs) (n' v + of_pass * writes_in insp (list v)) (λ t. all_turned body k ((x, v) ∷ loops) t (h.3 v) (h.2.own_name, o) (h.2.fresh, n) stand))
           (loop_values (signed lo vs) rel (signed hi vs)) s))
       one_turned (choice ts first other) k loops s h o n stand =
           let vs : Vars = loops ++ params in
           let b : Bool = tests_hold ts vs in
-          let one : PlainStmts = stmts_of (instrument_all number pieces k first) in
-          let two : PlainStmts = stmts_of (instrument_all number pieces (k + sites_all first) other) in
-          let xs : List Tagged = tagged_all number k first vs in
-          let ys : List Tagged = tagged_all number (k + sites_all first) other vs in
-          let l = pieces_all_many number whole k first in
-          let ps = write_pieces_all number whole k first in
-          let qs = write_pieces_all number whole (k + sites_all first) other in
+          let one : PlainStmts = stmts_of (instrument_all number texts pieces k first) in
+          let two : PlainStmts = stmts_of (instrument_all number texts pieces (k + sites_all first) other) in
+          let xs : List Tagged = tagged_all arrays m number k first vs in
+          let ys : List Tagged = tagged_all arrays m number (k + sites_all first) other vs in
+          let l = targets_all_many first in
+          let ps = targets_all first in
+          let qs = targets_all other in
           one_turns sc (choice ts one two) _ vs s
-          (subst (λ o. WhereGoing (Spun (cond b (turns_all first vs) (turns_all other vs) + of_pass * writes_in (cond b xs ys)) s) (and_then o (λ b. cond b (exec_all sc one vs) (exec_all sc two vs)))) (sym (all_hold_is sc ts vs s (affine_tests ts vs h.0)))
-          (subst (λ j. WhereGoing (Spun j s) (cond b (exec_all sc one vs) (exec_all sc two vs) s)) (turns_if b (turns_all first vs) (turns_all other vs) (writes_in xs) (writes_in ys) of_pass ∙ ap (λ j. cond b (turns_all first vs) (turns_all other vs) + of_pass * j) (sym (writes_if b xs ys)))
-          (chosen_turns sc arrays number b (turns_all first vs + of_pass * writes_in xs) (turns_all other vs + of_pass * writes_in ys) s (exec_all sc one vs) (exec_all sc two vs)
+          (subst (λ o. WhereGoing (Spun (cond b (turns_all first vs) (turns_all other vs) + of_pass * writes_in insp (cond b xs ys)) s) (and_then o (λ b. cond b (exec_all sc one vs) (exec_all sc two vs)))) (sym (all_hold_is sc ts vs s (affine_tests ts vs h.0)))
+          (subst (λ j. WhereGoing (Spun j s) (cond b (exec_all sc one vs) (exec_all sc two vs) s)) (turns_if b (turns_all first vs) (turns_all other vs) (writes_in insp xs) (writes_in insp ys) of_pass ∙ ap (λ j. cond b (turns_all first vs) (turns_all other vs) + of_pass * j) (sym (writes_if insp b xs ys)))
+          (chosen_turns sc arrays number b (turns_all first vs + of_pass * writes_in insp xs) (turns_all other vs + of_pass * writes_in insp ys) s (exec_all sc one vs) (exec_all sc two vs)
           (all_turned first k loops s h.1 o n (stand_left k (sites_all first) (sites_all other) ps qs l stand))
           (all_turned other (k + sites_all first) loops s h.2 o n (stand_right k (sites_all first) (sites_all other) ps qs l stand)))))
       one_turned (assign t op e) k loops s h o n stand = assign_turns t op e k loops s h.0 (place_around loops params n o own_params) stand
@@ -259,19 +319,19 @@ module _ (sc : Scope) (has : HasCounters sc.wides) (arrays : List Array) (number
       one_turned (check x extent a) k loops s h o n stand = absurd h
       one_turned verdict k loops s h o n stand = absurd h
 
-      pub all_turned : (ps : PlainStmts) (k : ℕ) (loops : Vars) (s : State) → AreCountable arrays number ps (loops ++ params) → AreOwn loops → AreNested loops params → Stand k (sites_all ps) (write_pieces_all number whole k ps) →
-          Turns k (turns_all ps (loops ++ params)) (tagged_all number k ps (loops ++ params)) s (exec_all sc (stmts_of (instrument_all number pieces k ps)) (loops ++ params) s)
+      pub all_turned : (ps : PlainStmts) (k : ℕ) (loops : Vars) (s : State) → AreCountable arrays number ps (loops ++ params) → AreOwn loops → AreNested loops params → Stand k (sites_all ps) (targets_all ps) →
+          Turns k (turns_all ps (loops ++ params)) (tagged_all arrays m number k ps (loops ++ params)) s (exec_all sc (stmts_of (instrument_all number texts pieces k ps)) (loops ++ params) s)
       all_turned no_stmts k loops s h o n stand = subst (λ j. Spun j s s) (let e : 0 ≡ 0 + of_pass * 0 = omega arith in e) (spun_none s)
       all_turned (more_stmts p ps) k loops s h o n stand =
           let vs : Vars = loops ++ params in
-          let l = pieces_many number whole k p in
-          let xs : List Tagged = tagged number k p vs in
-          let ys : List Tagged = tagged_all number (k + sites p) ps vs in
-          let one = write_pieces number whole k p in
-          let two = write_pieces_all number whole (k + sites p) ps in
-          subst (λ j. WhereGoing (Spun j s) (exec_all sc (stmts_of (instrument number pieces k p ++ instrument_all number pieces (k + sites p) ps)) vs s))
-          (both (turns p vs) (turns_all ps vs) of_pass (writes_in xs) (writes_in ys) ∙ ap (λ j. (turns p vs + turns_all ps vs) + of_pass * j) (sym (writes_join xs ys)))
-          (join_turns sc (instrument number pieces k p) (instrument_all number pieces (k + sites p) ps) (turns p vs + of_pass * writes_in xs) (turns_all ps vs + of_pass * writes_in ys) vs s
+          let l = targets_many p in
+          let xs : List Tagged = tagged arrays m number k p vs in
+          let ys : List Tagged = tagged_all arrays m number (k + sites p) ps vs in
+          let one = targets p in
+          let two = targets_all ps in
+          subst (λ j. WhereGoing (Spun j s) (exec_all sc (stmts_of (instrument number texts pieces k p ++ instrument_all number texts pieces (k + sites p) ps)) vs s))
+          (both (turns p vs) (turns_all ps vs) of_pass (writes_in insp xs) (writes_in insp ys) ∙ ap (λ j. (turns p vs + turns_all ps vs) + of_pass * j) (sym (writes_join insp xs ys)))
+          (join_turns sc (instrument number texts pieces k p) (instrument_all number texts pieces (k + sites p) ps) (turns p vs + of_pass * writes_in insp xs) (turns_all ps vs + of_pass * writes_in insp ys) vs s
           (one_turned p k loops s h.0 o n (stand_left k (sites p) (sites_all ps) one two l stand))
           (λ t. all_turned ps (k + sites p) loops t h.1 o n (stand_right k (sites p) (sites_all ps) one two l stand)))
         where
@@ -299,25 +359,59 @@ module _ (sc : Scope) (has : HasCounters sc.wides) (arrays : List Array) (number
       walked : (e w c t : ℕ) → e + e * (w + c * t) ≡ (e + e * w) + e * c * t
       walked e w c t = grind arith
 
-  array_turned : (a : ℕ) (x : Word) (es : PlainExprs) (zs : List ℤ) (s : State) → Measures es params zs → WhereGoing (Spun (cell_walk zs + cell_count zs * of_pass) s) (exec_all sc (stmts_of (array_text a x es (cell_piece number whole a es))) params s)
+  -- the piece of an array's cells makes no turn where it takes its count from a table
+  abbrev of_cell : Bool → ℕ
+  of_cell b = cond b 0 of_pass
+
+  initial_turns : (a : ℕ) (es : PlainExprs) (cs : List ℤ) (u : State) → WhereGoing (Spun (of_cell (insp a)) u) (exec_all sc (stmts_of (initial_piece number whole a es)) (coordinate_vars 0 cs params) u)
+  initial_turns a es cs u = chosen (insp a) refl
+    where
+      chosen : (b : Bool) → insp a ≡ b → WhereGoing (Spun (of_cell b) u) (exec_all sc (stmts_of (cond b (initial a es) (pass_text number whole (record { array = a; at = coordinates_from 0 es }) None))) (coordinate_vars 0 cs params) u)
+      chosen true e = assigns_turns sc (initial a es) (tt, tt) (coordinate_vars 0 cs params) u
+      chosen false e = piece_turns (record { array = a; at = coordinates_from 0 es }) None (coordinate_vars 0 cs params) u (coordinates_free arrays number whole params countable 0 es) (place_cell cs params own_params) e
+
+  array_turned : (a : ℕ) (x : Word) (es : PlainExprs) (zs : List ℤ) (s : State) → Measures es params zs → WhereGoing (Spun (cell_walk zs + cell_count zs * of_cell (insp a)) s) (exec_all sc (stmts_of (array_text a x es (initial_piece number whole a es))) params s)
   array_turned a x es zs s m =
-      cells_turned (cell_text a x es (cell_piece number whole a es)) es zs 0 params of_pass m
-      (λ cs t. subst (λ j. WhereGoing (Spun j t) (exec_all sc (stmts_of (cell_text a x es (cell_piece number whole a es))) (coordinate_vars 0 cs params) t)) (let e : 0 + (of_pass + 0) ≡ of_pass = omega arith in e)
-      (join_turns sc (assign (var (register 0)) None (cell x (coordinates_from 0 es)) ∷ []) (cell_piece number whole a es ++ add_cell a) 0 (of_pass + 0) (coordinate_vars 0 cs params) t
+      cells_turned (cell_text a x es (initial_piece number whole a es)) es zs 0 params (of_cell (insp a)) m
+      (λ cs t. subst (λ j. WhereGoing (Spun j t) (exec_all sc (stmts_of (cell_text a x es (initial_piece number whole a es))) (coordinate_vars 0 cs params) t)) (let e : 0 + (of_cell (insp a) + 0) ≡ of_cell (insp a) = omega arith in e)
+      (join_turns sc (assign (var (register 0)) None (cell x (coordinates_from 0 es)) ∷ []) (initial_piece number whole a es ++ add_cell a) 0 (of_cell (insp a) + 0) (coordinate_vars 0 cs params) t
       (assigns_turns sc (assign (var (register 0)) None (cell x (coordinates_from 0 es)) ∷ []) (tt, tt) (coordinate_vars 0 cs params) t)
-      (λ u. join_turns sc (cell_piece number whole a es) (add_cell a) of_pass 0 (coordinate_vars 0 cs params) u
-      (piece_turns (record { array = a; at = coordinates_from 0 es }) None (coordinate_vars 0 cs params) u (coordinates_free arrays number whole params countable 0 es) (place_cell cs params own_params))
+      (λ u. join_turns sc (initial_piece number whole a es) (add_cell a) (of_cell (insp a)) 0 (coordinate_vars 0 cs params) u (initial_turns a es cs u)
       (λ w. assigns_turns sc (add_cell a) (tt, tt) (coordinate_vars 0 cs params) w)))) s
 
-  abbrev pub of_array : Array → ℕ
-  of_array a = cell_walk a.extents + cell_count a.extents * of_pass
+  walked_cells : (b : Bool) (c : ℕ) → c * of_cell b ≡ cond b 0 (c * of_pass)
+  walked_cells true c = omega arith
+  walked_cells false c = refl
 
   pub prologue_turned : (a : ℕ) (ps : List PlainParam) (s : State) → AreMeasured params ps →
-      WhereGoing (Spun (sum_by of_array (arrays_of params ps)) s) (exec_all sc (stmts_of (prologue_text (cell_piece number whole) a (arrays_with_extents ps))) params s)
+      WhereGoing (Spun (walks_from insp of_pass a (arrays_of params ps)) s) (exec_all sc (stmts_of (prologue_text (initial_piece number whole) a (arrays_with_extents ps))) params s)
   prologue_turned a [] s m = spun_none s
   prologue_turned a (int_param x ∷ ps) s m = prologue_turned a ps s m
   prologue_turned a (array_param x constant es ∷ ps) s m =
-      let here : Array = record { name = x; constant = constant; extents = extents_of params es } in
-      subst (λ j. WhereGoing (Spun j s) (exec_all sc (stmts_of (prologue_text (cell_piece number whole) a (arrays_with_extents (array_param x constant es ∷ ps)))) params s)) (sym (sum_by-cons of_array here (arrays_of params ps)))
-      (join_turns sc (array_text a x es (cell_piece number whole a es)) (prologue_text (cell_piece number whole) (suc a) (arrays_with_extents ps)) (of_array here) (sum_by of_array (arrays_of params ps)) params s
-      (array_turned a x es (extents_of params es) s m.1) (λ t. prologue_turned (suc a) ps t m.3))
+      let zs : List ℤ = extents_of params es in
+      join_turns sc (array_text a x es (initial_piece number whole a es)) (prologue_text (initial_piece number whole) (suc a) (arrays_with_extents ps)) (cell_walk zs + cond (insp a) 0 (cell_count zs * of_pass)) (walks_from insp of_pass (suc a) (arrays_of params ps)) params s
+      (subst (λ j. WhereGoing (Spun (cell_walk zs + j) s) (exec_all sc (stmts_of (array_text a x es (initial_piece number whole a es))) params s)) (walked_cells (insp a) (cell_count zs)) (array_turned a x es zs s m.1))
+      (λ t. prologue_turned (suc a) ps t m.3)
+
+-- ---- as the laws say it
+
+counted_is : (inspected : ℕ → Bool) (list : List Tagged) → writes_in inspected list ≡ counted_in inspected (untagged list)
+counted_is inspected [] = refl
+counted_is inspected (t ∷ ts) = ap (λ n. cond (t.access.writes && not (inspected t.access.array)) 1 0 + n) (counted_is inspected ts)
+
+pub bodies_turn : BodiesTurn
+bodies_turn sc arrays m number texts body params has own countable s =
+    let n : ℕ = turns_all body params in
+    let insp : ℕ → Bool = λ a. inspects_all number a body in
+    let list : List Tagged = tagged_all arrays m number 0 body params in
+    let pieces : ℕ → List PlainStmt = piece_at (site_pieces_all number texts body 0 body) in
+    subst (λ k. WhereGoing (Turned (n + n * k) s) (exec_all sc (stmts_of (instrument_all number texts pieces 0 body)) params s)) (counted_is insp list)
+    (going_weaker (Spun (n + n * writes_in insp list) s) (Turned (n + n * writes_in insp list) s) (exec_all sc (stmts_of (instrument_all number texts pieces 0 body)) params s) (λ t k. k.turned)
+    (all_turned sc has arrays number params own body countable m texts pieces body 0 [] s countable tt tt
+    (λ j l. ap pieces (let e : 0 + j ≡ j = omega arith in e) ∙ piece_of number texts body j ∙ ap (λ i. site_piece number texts body i (target_in (targets_all body) j)) (let e : j ≡ 0 + j = omega arith in e))))
+
+pub prologues_turn : ProloguesTurn
+prologues_turn sc arrays number body params ps has own countable measured s =
+    let k : ℕ = walks_from (λ a. inspects_all number a body) (turns_all body params) 0 (arrays_of params ps) in
+    going_weaker (Spun k s) (Turned k s) (exec_all sc (stmts_of (prologue_text (initial_piece number body) 0 (arrays_with_extents ps))) params s) (λ t k. k.turned)
+    (prologue_turned sc has arrays number params own body countable 0 ps s measured)

@@ -1,5 +1,6 @@
 -- A pass makes as many turns as its source.
 use Rattle.std.proofs.Common.{◌≡◌, ℕ, suc, ◌+◌, ◌<◌, ◌^◌, Bool, true, false, cond, List, [], ◌∷◌, ◌++◌, length, sum_by, refl, sym, ap, ◌∙◌, subst, arith, ℤ, Option, None}
+use Rattle.std.proofs.lemmas.Bool.{or_parts}
 use Rattle.std.proofs.lemmas.List.Sums.{sum_by-cons}
 use Rattle.c_tree.specs.Plain.{Word, var, widen, PlainTest, PlainStmt, loop, choice, assign, table, begin, check, verdict, PlainStmts, no_stmts, more_stmts}
 use Rattle.c_tree.specs.Trees.{stmts_of}
@@ -10,6 +11,7 @@ use Rattle.c_tree.specs.Run.{State, Outcome, Run, and_then, Scope, turn, over, e
 use Rattle.instrumentation.specs.Names.{pass_variable, count, active, counter}
 use Rattle.instrumentation.specs.Body.{full}
 use Rattle.instrumentation.specs.Passes.{Target, renamed, renamed_tests, set_word, count_reads, count_write, copied, copied_all, pass_text, standing}
+use Rattle.instrumentation.specs.Inspects.{inspects, inspects_all}
 use Rattle.instrumentation_laws.specs.AccessList.{tests_hold}
 use Rattle.pass_laws.specs.Countable.{AllHaveNoCells, AreOwn, AreAffineTests, IsCountable, AreCountable}
 use Rattle.pass_laws.specs.Going.{GoesTo, HasCounters, Turned}
@@ -110,9 +112,9 @@ module _ (sc : Scope) (has : HasCounters sc.wides) (arrays : List Array) (number
           branch false = two
 
   mutual
-    turned_one : (p : PlainStmt) (k : ℕ) (loops : Vars) (s : State) → IsCountable arrays number p (loops ++ params) → AreOwn loops → length (names loops) < 2 ^ 64 →
+    turned_one : (p : PlainStmt) (k : ℕ) (loops : Vars) (s : State) → IsCountable arrays number p (loops ++ params) → inspects number target.array p ≡ false → AreOwn loops → length (names loops) < 2 ^ 64 →
         GoesTo (Spun (turns p (loops ++ params)) s) (exec_all sc (stmts_of (copied number target site (names loops) k p)) (copied_vars loops ++ base) s)
-    turned_one (loop x lo rel hi body) k loops s h o l =
+    turned_one (loop x lo rel hi body) k loops s h q o l =
         let f : ℤ → Run (Unit {0}) = λ v. λ t. and_then (turn t) (λ u. exec_all sc (stmts_of (copied_all number target site (x ∷ names loops) k body)) ((pass_variable (length (names loops)), v) ∷ (copied_vars loops ++ base))) in
         let n : ℤ → ℕ = λ v. turns_all body ((x, v) ∷ (loops ++ params)) in
         must_one sc _ (loop (pass_variable (length (names loops))) (renamed (names loops) lo) rel (renamed (names loops) hi) (stmts_of (copied_all number target site (x ∷ names loops) k body))) (copied_vars loops ++ base) s
@@ -120,29 +122,29 @@ module _ (sc : Scope) (has : HasCounters sc.wides) (arrays : List Array) (number
         (spun_over f (λ v. suc (n v))
         (λ v t. subst (λ j. GoesTo (Spun j t) (f v t)) (let e : 1 + n v ≡ suc (n v) = omega arith in e)
         (must_then (Spun 1 t) (Spun (1 + n v) t) (turn t) (λ u. exec_all sc (stmts_of (copied_all number target site (x ∷ names loops) k body)) ((pass_variable (length (names loops)), v) ∷ (copied_vars loops ++ base))) (spun_turn t)
-        (λ u p. spun_more 1 (n v) t u _ p (turned_all body k ((x, v) ∷ loops) u (h.3 v) (h.2.own_name, o) (deeper loops params h.2.shallow)))))
+        (λ u p. spun_more 1 (n v) t u _ p (turned_all body k ((x, v) ∷ loops) u (h.3 v) q (h.2.own_name, o) (deeper loops params h.2.shallow)))))
         (loop_values (signed lo (loops ++ params)) rel (signed hi (loops ++ params))) s))
-    turned_one (choice ts first other) k loops s h o l =
-        choice_step k loops s ts first other h.0 o l (turned_all first k loops s h.1 o l) (turned_all other (k + sites_all first) loops s h.2 o l)
-    turned_one (assign t op e) k loops s h o l =
+    turned_one (choice ts first other) k loops s h q o l =
+        choice_step k loops s ts first other h.0 o l (turned_all first k loops s h.1 (or_parts _ _ q).0 o l) (turned_all other (k + sites_all first) loops s h.2 (or_parts _ _ q).1 o l)
+    turned_one (assign t op e) k loops s h q o l =
         still_step (stmts_of (count_reads number target (names loops) (full t op e) ++ count_write number target site (names loops) k t)) (copied_vars loops ++ base) s
-        (assign_quiet number target free arrays true site (names loops) k t op e (loops ++ params) h.0 h.1)
-    turned_one (table x len) k loops s h o l = absurd h
-    turned_one begin k loops s h o l = absurd h
-    turned_one (check x extent a) k loops s h o l = absurd h
-    turned_one verdict k loops s h o l = absurd h
+        (assign_quiet number target free arrays true site (names loops) k t op e (loops ++ params) h.0 h.1 q)
+    turned_one (table x len) k loops s h q o l = absurd h
+    turned_one begin k loops s h q o l = absurd h
+    turned_one (check x extent a) k loops s h q o l = absurd h
+    turned_one verdict k loops s h q o l = absurd h
 
-    turned_all : (ps : PlainStmts) (k : ℕ) (loops : Vars) (s : State) → AreCountable arrays number ps (loops ++ params) → AreOwn loops → length (names loops) < 2 ^ 64 →
+    turned_all : (ps : PlainStmts) (k : ℕ) (loops : Vars) (s : State) → AreCountable arrays number ps (loops ++ params) → inspects_all number target.array ps ≡ false → AreOwn loops → length (names loops) < 2 ^ 64 →
         GoesTo (Spun (turns_all ps (loops ++ params)) s) (exec_all sc (stmts_of (copied_all number target site (names loops) k ps)) (copied_vars loops ++ base) s)
-    turned_all no_stmts k loops s h o l = spun_none s
-    turned_all (more_stmts p ps) k loops s h o l =
+    turned_all no_stmts k loops s h q o l = spun_none s
+    turned_all (more_stmts p ps) k loops s h n o l =
         must_join sc (Spun (turns p (loops ++ params)) s) (Spun (turns p (loops ++ params) + turns_all ps (loops ++ params)) s) (copied number target site (names loops) k p) (copied_all number target site (names loops) (k + sites p) ps) (copied_vars loops ++ base) s
-        (turned_one p k loops s h.0 o l)
-        (λ t q. spun_more (turns p (loops ++ params)) (turns_all ps (loops ++ params)) s t _ q (turned_all ps (k + sites p) loops t h.1 o l))
+        (turned_one p k loops s h.0 (or_parts _ _ n).0 o l)
+        (λ t q. spun_more (turns p (loops ++ params)) (turns_all ps (loops ++ params)) s t _ q (turned_all ps (k + sites p) loops t h.1 (or_parts _ _ n).1 o l))
 
   -- the whole pass: before and after the copy no turn is made
-  pub pass_turns : (body : PlainStmts) (s : State) → AreCountable arrays number body params → GoesTo (Spun (turns_all body params) s) (exec_all sc (stmts_of (pass_text number body target site)) base s)
-  pass_turns body s h =
+  pub pass_turns : (body : PlainStmts) (s : State) → AreCountable arrays number body params → inspects_all number target.array body ≡ false → GoesTo (Spun (turns_all body params) s) (exec_all sc (stmts_of (pass_text number body target site)) base s)
+  pass_turns body s h plain =
       let n : ℕ = turns_all body params in
       let first : List PlainStmt = set_word active (standing site) ∷ set_word counter 0 ∷ [] in
       let last : List PlainStmt = assign (var count) None (widen (var counter)) ∷ [] in
@@ -151,5 +153,5 @@ module _ (sc : Scope) (has : HasCounters sc.wides) (arrays : List Array) (number
       (still_step (stmts_of first) base s ((sets_active refl, tt), ((sets_counter refl, tt), tt)))
       (λ t p. spun_more 0 (n + 0) s t _ p
       (must_join sc (Spun n t) (Spun (n + 0) t) (copied_all number target site [] 0 body) last base t
-      (turned_all body 0 [] t h tt (omega arith))
+      (turned_all body 0 [] t h plain tt (omega arith))
       (λ u q. spun_more n 0 t u _ q (still_step (stmts_of last) base u ((sets_count refl, tt), tt))))))

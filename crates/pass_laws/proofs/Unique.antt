@@ -5,10 +5,11 @@ use Rattle.std.proofs.lemmas.Int.{ints}
 use Rattle.std.proofs.lemmas.List.{get_or_at, length-append}
 use Rattle.c_tree.specs.Plain.{Word, PlainStmt, loop, choice, assign, table, begin, check, verdict, PlainStmts, no_stmts, more_stmts}
 use Rattle.c_tree.specs.Values.{Vars, signed, from_on, count_of, loop_values}
-use Rattle.c_tree.specs.Arrays.{Array}
+use Rattle.c_tree.specs.Arrays.{Array, Memory}
 use Rattle.c_tree.specs.Instances.{Tagged, sites, sites_all}
 use Rattle.instrumentation.specs.Body.{full}
-use Rattle.instrumentation_laws.specs.AccessList.{tests_hold, tagged, tagged_all}
+use Rattle.instrumentation_laws.specs.AccessList.{tests_hold}
+use Rattle.instrumentation_laws.specs.IndexedList.{tagged, tagged_all}
 use Rattle.pass_laws.specs.Countable.{IsCountable, AreCountable}
 use Rattle.pass_laws.proofs.Elements.{none_some, get_joined, assign_write}
 use Rattle.pass_laws.proofs.Sites.{facts_one, facts_all}
@@ -76,7 +77,7 @@ unique_turns items x vs h one a (v ∷ vals) ab n k t u gt gu wt wu s e =
         let m : (v +ℤ pos 1) ≤ℤ v = subst (λ z. (v +ℤ pos 1) ≤ℤ z) (sym same) l in
         omega (arith, ints)
 
-module _ (arrays : List Array) (number : Word → ℕ) (whole : PlainStmts) where
+module _ (arrays : List Array) (number : Word → ℕ) (m : Memory) where
   abbrev Same : List Tagged → Type 0
   Same l = (n k : ℕ) (t u : Tagged) → slice_get l n ≡ Some t → slice_get l k ≡ Some u → t.access.writes ≡ true → u.access.writes ≡ true → t.site ≡ u.site → t.vars ≡ u.vars → n ≡ k
 
@@ -85,39 +86,39 @@ module _ (arrays : List Array) (number : Word → ℕ) (whole : PlainStmts) wher
   unique_choice false xs ys h g = g
 
   mutual
-    unique_one : (p : PlainStmt) (j : ℕ) (vs : Vars) → IsCountable arrays number p vs → Same (tagged number j p vs)
+    unique_one : (p : PlainStmt) (j : ℕ) (vs : Vars) → IsCountable arrays number p vs → Same (tagged arrays m number j p vs)
     unique_one (loop x lo rel hi body) j vs h =
-        unique_turns (λ v. tagged_all number j body ((x, v) ∷ vs)) x vs
-        (λ v n t g w. let r = facts_all arrays number whole body j ((x, v) ∷ vs) n t (h.3 v) g w in (r.around, r.vars_is))
+        unique_turns (λ v. tagged_all arrays m number j body ((x, v) ∷ vs)) x vs
+        (λ v n t g w. let r = facts_all arrays number m body j ((x, v) ∷ vs) n t (h.3 v) g w in (r.around, r.vars_is))
         (λ v. unique_all body j ((x, v) ∷ vs) (h.3 v))
         (signed lo vs) (loop_values (signed lo vs) rel (signed hi vs)) (above_from (signed lo vs) (count_of (signed lo vs) rel (signed hi vs)))
     unique_one (choice ts first other) j vs h =
-        unique_choice (tests_hold ts vs) (tagged_all number j first vs) (tagged_all number (j + sites_all first) other vs) (unique_all first j vs h.1) (unique_all other (j + sites_all first) vs h.2)
+        unique_choice (tests_hold ts vs) (tagged_all arrays m number j first vs) (tagged_all arrays m number (j + sites_all first) other vs) (unique_all first j vs h.1) (unique_all other (j + sites_all first) vs h.2)
     unique_one (assign target op e) j vs h = λ n k t u gt gu wt wu s e'.
-        (assign_write number j target (full target op e) vs n t gt wt).position ∙ sym (assign_write number j target (full target op e) vs k u gu wu).position
+        (assign_write arrays m number j target (full target op e) vs n t gt wt).position ∙ sym (assign_write arrays m number j target (full target op e) vs k u gu wu).position
     unique_one (table x len) j vs h = absurd h
     unique_one begin j vs h = absurd h
     unique_one (check x extent a) j vs h = absurd h
     unique_one verdict j vs h = absurd h
 
-    pub unique_all : (ps : PlainStmts) (j : ℕ) (vs : Vars) → AreCountable arrays number ps vs → Same (tagged_all number j ps vs)
+    pub unique_all : (ps : PlainStmts) (j : ℕ) (vs : Vars) → AreCountable arrays number ps vs → Same (tagged_all arrays m number j ps vs)
     unique_all no_stmts j vs h = λ n k t u gt gu wt wu s e. absurd (none_some t gt)
     unique_all (more_stmts p ps) j vs h = λ n k t u gt gu wt wu s e.
-        elim (get_joined (tagged number j p vs) (tagged_all number (j + sites p) ps vs) n t gt) [
+        elim (get_joined (tagged arrays m number j p vs) (tagged_all arrays m number (j + sites p) ps vs) n t gt) [
           | inl a ↦
-              elim (get_joined (tagged number j p vs) (tagged_all number (j + sites p) ps vs) k u gu) [
+              elim (get_joined (tagged arrays m number j p vs) (tagged_all arrays m number (j + sites p) ps vs) k u gu) [
                 | inl b ↦ unique_one p j vs h.0 n k t u a b wt wu s e
                 | inr b ↦
-                    (let x = facts_one arrays number whole p j vs n t h.0 a wt in
-                    let y = facts_all arrays number whole ps (j + sites p) vs b.0 u h.1 b.2 wu in
+                    (let x = facts_one arrays number m p j vs n t h.0 a wt in
+                    let y = facts_all arrays number m ps (j + sites p) vs b.0 u h.1 b.2 wu in
                     let i = x.site_is in let l = x.below in let m = y.site_is in
                     absurd (omega arith))
               ]
           | inr a ↦
-              elim (get_joined (tagged number j p vs) (tagged_all number (j + sites p) ps vs) k u gu) [
+              elim (get_joined (tagged arrays m number j p vs) (tagged_all arrays m number (j + sites p) ps vs) k u gu) [
                 | inl b ↦
-                    (let x = facts_one arrays number whole p j vs k u h.0 b wu in
-                    let y = facts_all arrays number whole ps (j + sites p) vs a.0 t h.1 a.2 wt in
+                    (let x = facts_one arrays number m p j vs k u h.0 b wu in
+                    let y = facts_all arrays number m ps (j + sites p) vs a.0 t h.1 a.2 wt in
                     let i = x.site_is in let l = x.below in let m = y.site_is in
                     absurd (omega arith))
                 | inr b ↦ (let r : a.0 ≡ b.0 = unique_all ps (j + sites p) vs h.1 a.0 b.0 t u a.2 b.2 wt wu s e in let i = a.1 in let l = b.1 in omega arith)

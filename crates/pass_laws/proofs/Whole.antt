@@ -6,7 +6,7 @@ use Rattle.std.proofs.lemmas.List.{length-map}
 use Rattle.c_tree.specs.Plain.{Word, PlainStmt, assign, var, widen, PlainStmts}
 use Rattle.c_tree.specs.Trees.{stmts_of}
 use Rattle.c_tree.specs.Values.{Vars, is_in}
-use Rattle.c_tree.specs.Arrays.{Array}
+use Rattle.c_tree.specs.Arrays.{Array, Memory}
 use Rattle.c_tree.specs.Accesses.{Definition, is_of, same_definition, latest, reads_from, uses, sum_below}
 use Rattle.c_tree.specs.Accesses.Definition.{Initial, Written}
 use Rattle.c_tree.specs.Instances.{Tagged, untagged}
@@ -15,7 +15,9 @@ use Rattle.instrumentation.specs.Names.{count, active, counter}
 use Rattle.instrumentation.specs.Passes.{Target, set_word, write_text, copied_all, standing, pass_text}
 use Rattle.balance_laws.proofs.Sums.{sum_below_none}
 use Rattle.pass_laws.specs.Countable.{AreOwn, AreCountable}
-use Rattle.instrumentation_laws.specs.AccessList.{signed_all, tagged_all}
+use Rattle.instrumentation.specs.Inspects.{inspects_all}
+use Rattle.instrumentation_laws.specs.AccessList.{signed_all}
+use Rattle.instrumentation_laws.specs.IndexedList.{tagged_all}
 use Rattle.pass_laws.specs.Going.{GoesTo, HasCounters}
 use Rattle.instrumentation_laws.proofs.Names.{same_word}
 use Rattle.pass_laws.proofs.Names.{counter_active}
@@ -29,15 +31,15 @@ set_count : (sc : Scope) → HasCounters sc.wides → (vs : Vars) (s : State) �
     exec sc (assign (var count) None (widen (var counter))) vs s ≡ goes_on tt (record s { wides = put s.wides count (s.words counter) })
 set_count sc has vs s e = rw (has.count_wide, e) refl
 
-module _ (sc : Scope) (arrays : List Array) (number : Word → ℕ) (body : PlainStmts) (params base : Vars) (countable : AreCountable arrays number body params) (target : Target)
-    (is_pass : IsPass sc arrays number (tagged_all number 0 body params) params base target) (site : Option ℕ) (def : Definition)
-    (owned : (b n : ℕ) (c : List ℤ) → same_definition (latest (untagged (tagged_all number 0 body params)) b c n) def ≡ true → (b ≡ target.array) × (c ≡ signed_all target.at base))
-    (mine : (n : ℕ) (t : Tagged) (loops : Vars) (s : State) → slice_get (tagged_all number 0 body params) n ≡ Some t → t.access.writes ≡ true → t.vars ≡ loops ++ params → is_of t.access target.array (signed_all target.at base) ≡ true →
+module _ (sc : Scope) (arrays : List Array) (number : Word → ℕ) (m : Memory) (body : PlainStmts) (params base : Vars) (countable : AreCountable arrays number body params) (target : Target) (plain : inspects_all number target.array body ≡ false)
+    (is_pass : IsPass sc arrays number (tagged_all arrays m number 0 body params) params base target) (site : Option ℕ) (def : Definition)
+    (owned : (b n : ℕ) (c : List ℤ) → same_definition (latest (untagged (tagged_all arrays m number 0 body params)) b c n) def ≡ true → (b ≡ target.array) × (c ≡ signed_all target.at base))
+    (mine : (n : ℕ) (t : Tagged) (loops : Vars) (s : State) → slice_get (tagged_all arrays m number 0 body params) n ≡ Some t → t.access.writes ≡ true → t.vars ≡ loops ++ params → is_of t.access target.array (signed_all target.at base) ≡ true →
     AreOwn loops → length (names loops) < 2 ^ 64 →
     exec_all sc (stmts_of (write_text site (names loops) t.site)) (copied_vars loops ++ base) s ≡ goes_on tt (record s { words = put s.words active (cond (same_definition (Written n) def) 1 0) }))
     (start : standing site ≡ cond (same_definition (Initial target.array (signed_all target.at base)) def) 1 0) where
   abbrev whole : List Tagged
-  whole = tagged_all number 0 body params
+  whole = tagged_all arrays m number 0 body params
 
   abbrev At : ℕ → State → Type 0
   At = PassAt sc arrays number whole params base target is_pass site def
@@ -63,7 +65,7 @@ module _ (sc : Scope) (arrays : List Array) (number : Word → ℕ) (body : Plai
       let rest : List PlainStmt = copied_all number target site [] 0 body ++ assign (var count) None (widen (var counter)) ∷ [] in
       let last : GoesTo P (exec_all sc (stmts_of rest) base s2) =
       must_join sc (At (length whole)) P (copied_all number target site [] 0 body) (assign (var count) None (widen (var counter)) ∷ []) base s2
-      (copy_all sc arrays number whole params base target is_pass site def owned mine body 0 [] [] [] s2 countable tt (omega arith) (append-nil whole) (started s)) (λ t p. ended t p) in
+      (copy_all sc arrays number whole params base target is_pass site def m owned mine body 0 [] [] [] s2 countable plain tt (omega arith) (append-nil whole) (started s)) (λ t p. ended t p) in
       must_then (λ t. t ≡ s1) P (exec sc (set_word active (standing site)) base s) (λ u. exec_all sc (stmts_of (set_word counter 0 ∷ rest)) base)
       (subst (GoesTo (λ t. t ≡ s1)) (sym (set_active sc is_pass.has (standing site) base s)) refl)
       (λ t e. subst (λ t. GoesTo P (exec_all sc (stmts_of (set_word counter 0 ∷ rest)) base t)) (sym e)

@@ -1,5 +1,5 @@
 -- What a counting pass asks of a source: affine bounds, tests and subscripts over the names in scope,
--- fresh loop variables, and known arrays whose cells have one subscript for each extent.
+-- fresh loop variables, and known arrays whose cells have one subscript for each extent. A subscript of a read may be a cell of an index array.
 use Rattle.std.specs.Prelude.{◌≡◌, ℕ, suc, ◌^◌, ◌<◌, true, false, List, [], ◌∷◌, length, ℤ, Some}
 use Rattle.c_tree.specs.Plain.{Word, PlainExpr, lit, var, cell, un, bin, cast, test, umin, umax, least, greatest, widen, big, PlainExprs, no_exprs, more_exprs, PlainTest, PlainStmt, loop, choice, assign, table, begin, check, verdict, PlainStmts, no_stmts, more_stmts}
 use Rattle.c_tree.specs.Values.{Vars, is_in}
@@ -46,7 +46,7 @@ abbrev pub rank : PlainExprs → ℕ
 rank no_exprs = 0
 rank (more_exprs e es) = suc (rank es)
 
--- a cell of an array of the run, whose number the text knows, with a subscript for each extent
+-- a cell of an array of the run, whose number the text knows, with an affine subscript for each extent
 pub record IsCell (arrays : List Array) (number : Word → ℕ) (x : Word) (at : PlainExprs) (vs : Vars) : Type 0 where
   pub array : ℕ × Array
   pub named : array_named arrays x ≡ Some array
@@ -54,11 +54,28 @@ pub record IsCell (arrays : List Array) (number : Word → ℕ) (x : Word) (at :
   pub affine : AreAffine at vs
   pub ranked : rank at ≡ length (extents_at arrays (number x))
 
+-- a subscript of a read: affine, or a cell of an index array
+abbrev pub IsIndexed : List Array → (Word → ℕ) → PlainExpr → Vars → Type 0
+IsIndexed arrays number (cell p at) vs = IsCell arrays number p at vs
+IsIndexed arrays number e vs = IsAffine e vs
+
+abbrev pub AreIndexed : List Array → (Word → ℕ) → PlainExprs → Vars → Type 0
+AreIndexed arrays number no_exprs vs = Unit {0}
+AreIndexed arrays number (more_exprs e es) vs = IsIndexed arrays number e vs × AreIndexed arrays number es vs
+
+-- a cell that is read, with such a subscript for each extent
+pub record IsRead (arrays : List Array) (number : Word → ℕ) (x : Word) (at : PlainExprs) (vs : Vars) : Type 0 where
+  pub array : ℕ × Array
+  pub named : array_named arrays x ≡ Some array
+  pub numbered : number x ≡ array.0
+  pub indexed : AreIndexed arrays number at vs
+  pub ranked : rank at ≡ length (extents_at arrays (number x))
+
 -- an expression that gives a word: scalars, literals and cells
 abbrev pub IsData : List Array → (Word → ℕ) → PlainExpr → Vars → Type 0
 IsData arrays number (lit n) vs = Unit {0}
 IsData arrays number (var x) vs = Unit {0}
-IsData arrays number (cell x at) vs = IsCell arrays number x at vs
+IsData arrays number (cell x at) vs = IsRead arrays number x at vs
 IsData arrays number (un op a) vs = IsData arrays number a vs
 IsData arrays number (bin op a b) vs = IsData arrays number a vs × IsData arrays number b vs
 IsData arrays number (cast a) vs = IsData arrays number a vs

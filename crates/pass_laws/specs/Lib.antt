@@ -1,6 +1,7 @@
 pub mod Countable
 pub mod Going
 pub mod Places
-pub mod TextTurns
+pub mod Targets
 pub mod Turns
+pub mod TextTurns
 pub mod Laws

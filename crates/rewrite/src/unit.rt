@@ -4,10 +4,10 @@ ghost use Rattle.std.specs.Prelude.{◌≡◌, false, IfOk};
 ghost use Rattle.c_tree.specs.Trees.{unit};
 ghost use Rattle.acceptance.specs.Printed.{IsAcceptedPrinted, StoresNothingBefore};
 ghost use Rattle.acceptance.specs.Runnable.{IsRunnable};
+ghost use Rattle.acceptance.specs.Sources.{IsAcceptedSource};
 ghost use Rattle.acceptance.specs.Trees.{IsPrintedTree};
 ghost use Rattle.instrumentation.specs.Guarded.{guarded};
 ghost use Rattle.flip_laws.specs.FaultyRuns.{TellsOfFaults};
-ghost use Rattle.source_laws.specs.Laws.{IsRegularSource};
 
 use c_tree::{OutOfMemory, Unit};
 use kernel_check::Kernel;
@@ -20,10 +20,10 @@ pub struct Options {
     pub split: bool,
 }
 
-/// The instrumented unit of a source without irregular subscripts, by counting passes and not
-/// split. It fails by memory alone.
+/// The instrumented unit of a source, by tables and counting passes and not split. It fails by
+/// memory alone.
 pub fn instrument(alloc: Global, k: &Kernel, o: Options) -> Result<Unit, OutOfMemory>
-    requires regular { IsRegularSource (unit k.now.unit) }
+    requires accepted { IsAcceptedSource (unit k.now.unit) }
     requires whole { o.split ≡ false }
     ensures made { IfOk result (λ made. unit made ≡ guarded (unit k.now.unit)) }
 

@@ -3,6 +3,10 @@
 
 pub mod ends;
 #[cfg(test)]
+mod exposures;
+#[cfg(test)]
+mod gathers;
+#[cfg(test)]
 mod kernels;
 #[cfg(test)]
 mod language;
@@ -12,5 +16,7 @@ pub mod printed_runs;
 #[cfg(test)]
 mod printed_texts;
 pub mod runs;
+pub mod struck;
+#[cfg(test)]
 mod tables;
 pub mod texts;

@@ -90,3 +90,53 @@ void shift(int64_t n, uint64_t A[n]) {
     A[i + 1] = A[i] + 1;
 }
 ";
+
+/// A gather with the tables of its second array. Cells hold their current definitions by how much the number of each is greater
+/// than the cell's own, and the counts of the definitions.
+pub const PRINTED_GATHER: &[u8] = b"#pragma balance version 1
+#pragma balance range n 1 1000
+#pragma balance range m 1 1000
+uint64_t bal_fn_gather(int64_t n, int64_t m, const uint64_t P[n], const uint64_t X[m], uint64_t Y[n]) {
+  uint64_t bal_r0 = 0ull;
+  uint64_t bal_r1 = 0ull;
+  uint64_t bal_w = 0ull;
+  uint64_t bal_cw1 = 0ull;
+  uint64_t bal_cx0 = 0ull;
+  unsigned __int128 bal_k = 0;
+  unsigned __int128 bal_def0 = 0;
+  unsigned __int128 bal_use0 = 0;
+  unsigned __int128 bal_def1 = 0;
+  unsigned __int128 bal_use1 = 0;
+  unsigned __int128 bal_def2 = 0;
+  unsigned __int128 bal_use2 = 0;
+  uint64_t *bal_td1 = calloc((uint64_t)m * 1ull, sizeof(uint64_t));
+  if (bal_td1 == 0) { return 1099511627776ull; }
+  uint64_t *bal_tu1 = calloc(((uint64_t)m * 1ull) + bal_cw1, sizeof(uint64_t));
+  if (bal_tu1 == 0) { return 1099511627776ull; }
+  for (int64_t bal_l0 = 0; bal_l0 < n; bal_l0++) {
+    bal_cx0 = P[bal_l0];
+    if (bal_cx0 >= (uint64_t)(m)) { return 131072ull; }
+    bal_tu1[bal_cx0 + bal_td1[bal_cx0]] += 1ull;
+  }
+  for (int64_t bal_i0 = 0; bal_i0 < n; bal_i0++) {
+    bal_r0 = P[bal_i0];
+    bal_def0 += (unsigned __int128)bal_r0;
+  }
+  for (int64_t bal_i0 = 0; bal_i0 < m; bal_i0++) {
+    bal_r0 = X[bal_i0];
+    bal_k = (unsigned __int128)bal_tu1[((uint64_t)bal_i0 * 1ull) + 0ull];
+    bal_def1 += (unsigned __int128)bal_r0 * bal_k;
+  }
+#pragma balance begin
+  for (int64_t i = 0; i < n; i++) {
+    bal_r0 = P[i];
+    bal_use0 += (unsigned __int128)bal_r0;
+    if (bal_r0 >= (uint64_t)(m)) { return 131072ull; }
+    bal_r1 = X[bal_r0];
+    bal_use1 += (unsigned __int128)bal_r1;
+    bal_w = bal_r1;
+    Y[i] = bal_w;
+  }
+  return (uint64_t)(bal_def0 != bal_use0) << 0 | (uint64_t)(bal_def1 != bal_use1) << 1 | (uint64_t)(bal_def2 != bal_use2) << 2;
+}
+";

@@ -25,10 +25,10 @@ use Rattle.pass_laws.specs.Countable as countable
 use Rattle.pass_laws.specs.Countable.{rank}
 use Rattle.accepted_laws.proofs.Accepted.{unsigned_data}
 use Rattle.acceptance.specs.Items.{Loop, Scope, scope_of, is_loop, is_int, is_param, is_scalar, is_declared, is_known, is_signed_name}
-use Rattle.acceptance.specs.Affine.{has_name, is_affine_un, is_affine_bin, is_affine}
+use Rattle.acceptance.specs.Affine.{has_name, is_affine_un, is_affine_bin, is_affine, holds_throughout, Intervals, is_narrow}
 use Rattle.acceptance.specs.Head.{list_of, uses_known}
 use Rattle.acceptance.specs.Printed.{dimensions, fits_dimensions, has_good_side, literals_fit}
-use Rattle.acceptance.specs.Parts.{has_signed, is_data, subscript_holds, subscripts_hold, parts_hold, is_cell, are_regular, cells_hold}
+use Rattle.acceptance.specs.Parts.{has_signed, is_data, parts_hold}
 use Rattle.acceptance.specs.Trees.{IsTree, AreSubscripts}
 
 -- ---- kinds
@@ -114,6 +114,7 @@ module _ (u : PlainUnit) (params : Vars) (few_arrays : length (array_names u.par
   pub record IsCell (x : Word) (at : PlainExprs) : Type 0 where
     pub array : regular.IsArray its_arrays its_number x
     pub ranked : rank at ≡ length (extents_at its_arrays (its_number x))
+    pub long : rank at ≡ length array.array.1.extents
 
   pub cell_is : (ls : List Loop) (x : Word) (at : PlainExprs) → nat_eq (dimensions (scope_of u ls []) x) (length (list_of at)) ≡ true → AreSubscripts false at → IsCell x at
   cell_is ls x no_exprs h g = absurd g
@@ -123,6 +124,7 @@ module _ (u : PlainUnit) (params : Vars) (few_arrays : length (array_names u.par
       let same : a.array ≡ f.array = (let g : Some a.array ≡ Some f.array = sym a.named ∙ f.named in cc) in
       record {
         array = a;
+        long = rank_is (more_exprs e es) ∙ sym f.long ∙ ap (λ (p : ℕ × Array). length p.1.extents) (sym same);
         ranked = rank_is (more_exprs e es) ∙ sym f.long ∙ ap (λ (p : ℕ × Array). length p.1.extents) (sym same)
             ∙ ap length (sym (ap extents_in (array_stands its_arrays x a.array a.named)) ∙ ap (extents_at its_arrays) (sym a.numbered));
       }
@@ -241,41 +243,27 @@ module _ (u : PlainUnit) (ls : List Loop) (vs : Vars) (s : Stands u ls vs) where
   all_regular (more_exprs e es) h =
       (affine_no_word e (and_parts (is_affine sc e) (list_all (is_affine sc) (list_of es)) h).0, all_regular es (and_parts (is_affine sc e) (list_all (is_affine sc) (list_of es)) h).1)
 
--- a test of subscripts, none of which is a cell
-plain_subscript : (p : PlainExpr → Bool) (e : PlainExpr) → is_cell e ≡ false → subscript_holds p e ≡ p e
-plain_subscript p (cell x at) h = absurd (true≢false h)
-plain_subscript p _ h = refl
-
-pub plain_subscripts : (p : PlainExpr → Bool) (at : PlainExprs) → subscripts_hold p at ≡ true → are_regular at ≡ true → list_all p (list_of at) ≡ true
-plain_subscripts p no_exprs h g = refl
-plain_subscripts p (more_exprs e es) h g =
-    and_from _ _ (sym (plain_subscript p e (not-true (is_cell e) (and_parts (not (is_cell e)) (are_regular es) g).0)) ∙ (and_parts (subscript_holds p e) (subscripts_hold p es) h).0)
-    (plain_subscripts p es (and_parts (subscript_holds p e) (subscripts_hold p es) h).1 (and_parts (not (is_cell e)) (are_regular es) g).1)
-
 -- ---- data expressions
 
 -- what is asked of a data expression
-pub record IsAsked (sc : Scope) (e : PlainExpr) : Type 0 where
+pub record IsAsked (sc : Scope) (rs : Intervals) (e : PlainExpr) : Type 0 where
   pub known : uses_known sc e ≡ true
   pub affine : parts_hold (is_affine sc) sc e ≡ true
   pub data_alone : is_data sc e ≡ true
   pub fits : fits_dimensions (dimensions sc) e ≡ true
-  pub plain : cells_hold (λ x at. are_regular at) e ≡ true
+  pub narrow : parts_hold (holds_throughout (is_narrow rs)) sc e ≡ true
   pub literals : literals_fit e ≡ true
   pub tree : IsTree false e
 
-abbrev plain : PlainExpr → Bool
-plain = cells_hold (λ x at. are_regular at)
-
-pub asked_bin : (sc : Scope) (op : BinOp) (a b : PlainExpr) → IsAsked sc (bin op a b) → IsAsked sc a × IsAsked sc b
-asked_bin sc op a b h =
+pub asked_bin : (sc : Scope) (rs : Intervals) (op : BinOp) (a b : PlainExpr) → IsAsked sc rs (bin op a b) → IsAsked sc rs a × IsAsked sc rs b
+asked_bin sc rs op a b h =
     let d = dimensions sc in (
       record {
         known = (and_parts (uses_known sc a) (uses_known sc b) h.known).0;
         affine = (and_parts (parts_hold (is_affine sc) sc a) (parts_hold (is_affine sc) sc b) h.affine).0;
         data_alone = (and_parts (is_data sc a) (is_data sc b) h.data_alone).0;
         fits = (and_parts (fits_dimensions d a) (fits_dimensions d b) h.fits).0;
-        plain = (and_parts (plain a) (plain b) h.plain).0;
+        narrow = (and_parts (parts_hold (holds_throughout (is_narrow rs)) sc a) (parts_hold (holds_throughout (is_narrow rs)) sc b) h.narrow).0;
         literals = (and_parts (literals_fit a) (literals_fit b) (and_parts (has_good_side op b) (literals_fit a && literals_fit b) h.literals).1).0;
         tree = h.tree.0;
       },
@@ -284,21 +272,21 @@ asked_bin sc op a b h =
         affine = (and_parts (parts_hold (is_affine sc) sc a) (parts_hold (is_affine sc) sc b) h.affine).1;
         data_alone = (and_parts (is_data sc a) (is_data sc b) h.data_alone).1;
         fits = (and_parts (fits_dimensions d a) (fits_dimensions d b) h.fits).1;
-        plain = (and_parts (plain a) (plain b) h.plain).1;
+        narrow = (and_parts (parts_hold (holds_throughout (is_narrow rs)) sc a) (parts_hold (holds_throughout (is_narrow rs)) sc b) h.narrow).1;
         literals = (and_parts (literals_fit a) (literals_fit b) (and_parts (has_good_side op b) (literals_fit a && literals_fit b) h.literals).1).1;
         tree = h.tree.1;
       },
     )
 
-pub asked_test : (sc : Scope) (rel : Rel) (a b : PlainExpr) → IsAsked sc (test rel a b) → IsAsked sc a × IsAsked sc b
-asked_test sc rel a b h =
+pub asked_test : (sc : Scope) (rs : Intervals) (rel : Rel) (a b : PlainExpr) → IsAsked sc rs (test rel a b) → IsAsked sc rs a × IsAsked sc rs b
+asked_test sc rs rel a b h =
     let d = dimensions sc in (
       record {
         known = (and_parts (uses_known sc a) (uses_known sc b) h.known).0;
         affine = (and_parts (parts_hold (is_affine sc) sc a) (parts_hold (is_affine sc) sc b) h.affine).0;
         data_alone = (and_parts (is_data sc a) (is_data sc b) h.data_alone).0;
         fits = (and_parts (fits_dimensions d a) (fits_dimensions d b) h.fits).0;
-        plain = (and_parts (plain a) (plain b) h.plain).0;
+        narrow = (and_parts (parts_hold (holds_throughout (is_narrow rs)) sc a) (parts_hold (holds_throughout (is_narrow rs)) sc b) h.narrow).0;
         literals = (and_parts (literals_fit a) (literals_fit b) h.literals).0;
         tree = h.tree.0;
       },
@@ -307,21 +295,21 @@ asked_test sc rel a b h =
         affine = (and_parts (parts_hold (is_affine sc) sc a) (parts_hold (is_affine sc) sc b) h.affine).1;
         data_alone = (and_parts (is_data sc a) (is_data sc b) h.data_alone).1;
         fits = (and_parts (fits_dimensions d a) (fits_dimensions d b) h.fits).1;
-        plain = (and_parts (plain a) (plain b) h.plain).1;
+        narrow = (and_parts (parts_hold (holds_throughout (is_narrow rs)) sc a) (parts_hold (holds_throughout (is_narrow rs)) sc b) h.narrow).1;
         literals = (and_parts (literals_fit a) (literals_fit b) h.literals).1;
         tree = h.tree.1;
       },
     )
 
-pub asked_umin : (sc : Scope) (a b : PlainExpr) → IsAsked sc (umin a b) → IsAsked sc a × IsAsked sc b
-asked_umin sc a b h =
+pub asked_umin : (sc : Scope) (rs : Intervals) (a b : PlainExpr) → IsAsked sc rs (umin a b) → IsAsked sc rs a × IsAsked sc rs b
+asked_umin sc rs a b h =
     let d = dimensions sc in (
       record {
         known = (and_parts (uses_known sc a) (uses_known sc b) h.known).0;
         affine = (and_parts (parts_hold (is_affine sc) sc a) (parts_hold (is_affine sc) sc b) h.affine).0;
         data_alone = (and_parts (is_data sc a) (is_data sc b) h.data_alone).0;
         fits = (and_parts (fits_dimensions d a) (fits_dimensions d b) h.fits).0;
-        plain = (and_parts (plain a) (plain b) h.plain).0;
+        narrow = (and_parts (parts_hold (holds_throughout (is_narrow rs)) sc a) (parts_hold (holds_throughout (is_narrow rs)) sc b) h.narrow).0;
         literals = (and_parts (literals_fit a) (literals_fit b) h.literals).0;
         tree = h.tree.0;
       },
@@ -330,21 +318,21 @@ asked_umin sc a b h =
         affine = (and_parts (parts_hold (is_affine sc) sc a) (parts_hold (is_affine sc) sc b) h.affine).1;
         data_alone = (and_parts (is_data sc a) (is_data sc b) h.data_alone).1;
         fits = (and_parts (fits_dimensions d a) (fits_dimensions d b) h.fits).1;
-        plain = (and_parts (plain a) (plain b) h.plain).1;
+        narrow = (and_parts (parts_hold (holds_throughout (is_narrow rs)) sc a) (parts_hold (holds_throughout (is_narrow rs)) sc b) h.narrow).1;
         literals = (and_parts (literals_fit a) (literals_fit b) h.literals).1;
         tree = h.tree.1;
       },
     )
 
-pub asked_umax : (sc : Scope) (a b : PlainExpr) → IsAsked sc (umax a b) → IsAsked sc a × IsAsked sc b
-asked_umax sc a b h =
+pub asked_umax : (sc : Scope) (rs : Intervals) (a b : PlainExpr) → IsAsked sc rs (umax a b) → IsAsked sc rs a × IsAsked sc rs b
+asked_umax sc rs a b h =
     let d = dimensions sc in (
       record {
         known = (and_parts (uses_known sc a) (uses_known sc b) h.known).0;
         affine = (and_parts (parts_hold (is_affine sc) sc a) (parts_hold (is_affine sc) sc b) h.affine).0;
         data_alone = (and_parts (is_data sc a) (is_data sc b) h.data_alone).0;
         fits = (and_parts (fits_dimensions d a) (fits_dimensions d b) h.fits).0;
-        plain = (and_parts (plain a) (plain b) h.plain).0;
+        narrow = (and_parts (parts_hold (holds_throughout (is_narrow rs)) sc a) (parts_hold (holds_throughout (is_narrow rs)) sc b) h.narrow).0;
         literals = (and_parts (literals_fit a) (literals_fit b) h.literals).0;
         tree = h.tree.0;
       },
@@ -353,20 +341,21 @@ asked_umax sc a b h =
         affine = (and_parts (parts_hold (is_affine sc) sc a) (parts_hold (is_affine sc) sc b) h.affine).1;
         data_alone = (and_parts (is_data sc a) (is_data sc b) h.data_alone).1;
         fits = (and_parts (fits_dimensions d a) (fits_dimensions d b) h.fits).1;
-        plain = (and_parts (plain a) (plain b) h.plain).1;
+        narrow = (and_parts (parts_hold (holds_throughout (is_narrow rs)) sc a) (parts_hold (holds_throughout (is_narrow rs)) sc b) h.narrow).1;
         literals = (and_parts (literals_fit a) (literals_fit b) h.literals).1;
         tree = h.tree.1;
       },
     )
 
 -- the operand of a cast: it is affine, or it is data
-pub data CastIs (sc : Scope) (a : PlainExpr) : Type 0 where
-  of_affine : has_signed sc a ≡ true → is_affine sc a ≡ true → CastIs sc a
-  of_data : has_signed sc a ≡ false → IsAsked sc a → CastIs sc a
+pub data CastIs (sc : Scope) (rs : Intervals) (a : PlainExpr) : Type 0 where
+  of_affine : has_signed sc a ≡ true → is_affine sc a ≡ true → CastIs sc rs a
+  of_data : has_signed sc a ≡ false → IsAsked sc rs a → CastIs sc rs a
 
-pub cast_is : (u : PlainUnit) (ls : List Loop) (vs : Vars) → Stands u ls vs → (a : PlainExpr) → IsAsked (scope_of u ls []) (cast a) → CastIs (scope_of u ls []) a
-cast_is u ls vs s a h = chosen (has_signed (scope_of u ls []) a) refl h.affine
+pub cast_is : (u : PlainUnit) (ls : List Loop) (vs : Vars) → Stands u ls vs → (rs : Intervals) (a : PlainExpr) → IsAsked (scope_of u ls []) rs (cast a) → CastIs (scope_of u ls []) rs a
+cast_is u ls vs s rs a h = chosen (has_signed (scope_of u ls []) a) refl h.affine h.narrow
   where
-    chosen : (b : Bool) → has_signed (scope_of u ls []) a ≡ b → cond b (is_affine (scope_of u ls []) a) (parts_hold (is_affine (scope_of u ls [])) (scope_of u ls []) a) ≡ true → CastIs (scope_of u ls []) a
-    chosen true e g = of_affine e g
-    chosen false e g = of_data e (record { known = h.known; affine = g; data_alone = unsigned_data (scope_of u ls []) a e; fits = h.fits; plain = h.plain; literals = h.literals; tree = h.tree })
+    chosen : (b : Bool) → has_signed (scope_of u ls []) a ≡ b → cond b (is_affine (scope_of u ls []) a) (parts_hold (is_affine (scope_of u ls [])) (scope_of u ls []) a) ≡ true →
+        cond b (holds_throughout (is_narrow rs) a) (parts_hold (holds_throughout (is_narrow rs)) (scope_of u ls []) a) ≡ true → CastIs (scope_of u ls []) rs a
+    chosen true e g n = of_affine e g
+    chosen false e g n = of_data e (record { known = h.known; affine = g; narrow = n; data_alone = unsigned_data (scope_of u ls []) a e; fits = h.fits; literals = h.literals; tree = h.tree })

@@ -1,18 +1,20 @@
 -- The head of an accepted source: its names are its own, its parameters lie in their ranges, and no extent wraps.
-use Rattle.std.proofs.Common.{◌≡◌, ℕ, suc, ◌<◌, ◌≤◌, ◌^◌, Bool, true, false, cond, ◌||◌, List, [], ◌∷◌, map, length, ℤ, Some, refl, sym, ap, ◌∙◌, subst, arith, true≢false}
-use Rattle.std.specs.Prelude.{bytes_eq}
-use Rattle.std.specs.List.{list_all, list_any}
-use Rattle.std.proofs.lemmas.Bool.{and_parts, or_parts, not-false}
+use Rattle.std.proofs.Common.{◌≡◌, ◌⊎◌, inl, inr, pos, negsuc, ◌+◌, ◌*◌, ◌++◌, ◌&&◌, ◌≤ℤ◌, ℕ, suc, ◌<◌, ◌≤◌, ◌^◌, Bool, true, false, cond, ◌||◌, List, [], ◌∷◌, map, length, ℤ, Some, refl, sym, ap, ◌∙◌, subst, arith, true≢false}
+use Rattle.std.specs.Prelude.{bytes_eq, int_lt, int_le, neg_ℤ}
+use Rattle.std.proofs.lemmas.Int.{ints}
+use Rattle.std.proofs.Math.Nat.{le-mul_of_pos_right, mul_comm}
+use Rattle.std.specs.List.{list_all, list_any, AllByRecursion}
+use Rattle.std.proofs.lemmas.Bool.{and_parts, or_parts, not-false, cases_Bool}
 use Rattle.std.proofs.lemmas.List.Folds.{list_all-append}
 use Rattle.std.proofs.lemmas.Slice.Eq.{bytes_eq-Decides}
-use Rattle.c_tree.specs.Plain.{Word, PlainExpr, PlainExprs, no_exprs, more_exprs, PlainParam, int_param, array_param, PlainUnit}
+use Rattle.c_tree.specs.Plain.{Word, PlainExpr, lit, var, cell, un, bin, cast, test, umin, umax, least, greatest, widen, big, PlainExprs, no_exprs, more_exprs, PlainStmts, PlainParam, int_param, array_param, PlainUnit}
 use Rattle.c_tree.specs.Names.{is_among}
-use Rattle.c_tree.specs.Values.{Vars, value_in, is_in}
-use Rattle.c_tree.specs.Arrays.{vars_of, extents_of}
+use Rattle.c_tree.specs.Values.{Vars, value_in, is_in, exact}
+use Rattle.c_tree.specs.Arrays.{Array, size_of, cell_count, arrays_of, extents_at, vars_of, extents_of}
 use Rattle.c_tree.specs.Instances.{literal_of}
-use Rattle.c_tree.specs.Inputs.{range_of, IsBetween, AreInRange}
+use Rattle.c_tree.specs.Inputs.{range_of, IsBetween, AreInRange, HaveCells}
 use Rattle.c_tree.specs.Reserved.{is_reserved}
-use Rattle.instrumentation.specs.Guarded.{arrays_with_extents, array_names}
+use Rattle.instrumentation.specs.Guarded.{arrays_with_extents, array_names, extents_of as declared_extents}
 use Rattle.instrumentation_laws.specs.OwnNames.{own, AllMayLoop}
 use Rattle.instrumentation_laws.specs.PrologueTotals.{Measures}
 use Rattle.instrumentation_laws.specs.RegularUnits.{AreMeasured}
@@ -20,16 +22,18 @@ use Rattle.instrumentation_laws.proofs.Names.{apart_by, own_may}
 use Rattle.pass_laws.specs.Countable.{AreOwn}
 use Rattle.pass_laws.specs.Laws.{HaveRanks}
 use Rattle.acceptance.specs.Items.{scope_of, is_int, is_param, param_name, is_scalar, is_declared}
-use Rattle.acceptance.specs.Affine.{is_affine, holds_throughout, Intervals, interval_in, is_narrow}
+use Rattle.acceptance.specs.Affine.{is_affine, holds_throughout, lies_in, Intervals, interval_in, interval, is_narrow}
 use Rattle.acceptance.specs.Head.{list_of, extents_in, intervals_of, head_scope, params_twice, words_twice, wides_twice}
 use Rattle.acceptance.specs.Limits.{int_count, array_count}
 use Rattle.acceptance.specs.Trees.{IsSourceTree, AreParams, AreWords}
 use Rattle.source_laws.proofs.Products.{Within}
-use Rattle.source_laws.proofs.Intervals.{Suits, signed_exact}
+use Rattle.source_laws.proofs.Intervals.{Suits, exact_within, signed_exact}
 use Rattle.accepted_laws.proofs.Accepted.{same_count}
 use Rattle.accepted_laws.proofs.Clear.{Unrefused}
-use Rattle.source_laws.proofs.Expressions.{Stands, affine_own, rank_is, extents_long}
-use Rattle.source_laws.proofs.Statements.{reserved_own}
+use Rattle.source_laws.proofs.Expressions.{Stands, affine_own, affine_countable, rank_is, extents_long}
+use Rattle.source_laws.proofs.Statements.{reserved_own, wordable, IsExtent}
+use Rattle.inspection_laws.specs.Walked.{AreExtents}
+use Rattle.inspection_laws.specs.CountedUnits.{HaveExtents, AllOwn}
 
 -- ---- the parameters' values
 
@@ -125,6 +129,38 @@ ranks_of (array_param y constant es ∷ ps) h =
     let r = rank_is es in
     (omega arith, ranks_of ps h.3)
 
+-- a value within such an interval is a small size
+record SmallSize (z : ℤ) : Type 0 where
+  pub number : ℕ
+  pub is : z ≡ pos number
+  pub some : 1 ≤ number
+  pub below : number < 2 ^ 63
+
+not_below : (i : ℤ) → int_lt i (pos 1) ≡ false → pos 1 ≤ℤ i
+not_below i h = omega (arith, ints)
+
+small_size : (i j z : ℤ) → i ≤ℤ z → z ≤ℤ j → int_lt i (pos 1) ≡ false → int_le j (pos (2 ^ 62)) ≡ true → SmallSize z
+small_size i j (pos n) low high p q = (let l = not_below i p in record { number = n; is = refl; some = omega (arith, ints); below = omega (arith, ints) })
+small_size i j (negsuc n) low high p q = (let l = not_below i p in absurd (omega (arith, ints)))
+
+last_less : (a b : ℕ) → 1 ≤ a → a * b ≤ 4194304 → b ≤ 4194304
+last_less a b h l = (let r : b ≤ b * a = le-mul_of_pos_right b (let z : 0 < a = omega arith in z) in omega (arith, mul_comm a b))
+
+throughout_here : (p : PlainExpr → Bool) (e : PlainExpr) → holds_throughout p e ≡ true → p e ≡ true
+throughout_here p (lit n) h = h
+throughout_here p (var x) h = h
+throughout_here p (cell x at) h = h
+throughout_here p (un op a) h = (and_parts (p (un op a)) (holds_throughout p a) h).0
+throughout_here p (bin op a b) h = (and_parts (p (bin op a b)) (holds_throughout p a && holds_throughout p b) h).0
+throughout_here p (cast a) h = h
+throughout_here p (test rel a b) h = h
+throughout_here p (umin a b) h = h
+throughout_here p (umax a b) h = h
+throughout_here p (least a b) h = (and_parts (p (least a b)) (holds_throughout p a && holds_throughout p b) h).0
+throughout_here p (greatest a b) h = (and_parts (p (greatest a b)) (holds_throughout p a && holds_throughout p b) h).0
+throughout_here p (widen a) h = h
+throughout_here p (big high low) h = h
+
 module _ (u : PlainUnit) (vs : Vars) (s : Stands u [] vs) (suits : Suits (intervals_of u) (head_scope u) vs) where
   abbrev affine : PlainExpr → Bool
   affine = is_affine (head_scope u)
@@ -156,6 +192,94 @@ module _ (u : PlainUnit) (vs : Vars) (s : Stands u [] vs) (suits : Suits (interv
             (and_parts (list_all affine (list_of es)) (list_all affine (extents_in ps)) f).1 (and_parts (list_all narrow (list_of es)) (list_all narrow (extents_in ps)) g).1,
       )
 
+  -- ---- the values of extents
+
+  its_value : (e : PlainExpr) → affine e ≡ true → narrow e ≡ true → int_lt (interval (intervals_of u) e).0 (pos 1) ≡ false → IsExtent u vs e
+  its_value e a n p =
+      let w : Within (interval (intervals_of u) e) (exact e vs) = exact_within (intervals_of u) (head_scope u) vs suits e a in
+      let low = w.low in
+      let high = w.high in
+      let top = (and_parts (int_le (neg_ℤ (pos (2 ^ 62))) (interval (intervals_of u) e).1) (int_le (interval (intervals_of u) e).1 (pos (2 ^ 62)))
+      (and_parts (lies_in (pos (2 ^ 62)) (interval (intervals_of u) e).0) (lies_in (pos (2 ^ 62)) (interval (intervals_of u) e).1) (throughout_here (is_narrow (intervals_of u)) e n)).1).1 in
+      let size : SmallSize (exact e vs) = small_size (interval (intervals_of u) e).0 (interval (intervals_of u) e).1 (exact e vs) low high p top in
+      record { affine = a; value = size.number; some = size.some; exactly = size.is; signed_is = signed_exact (intervals_of u) (head_scope u) vs suits e a n ∙ size.is; below = size.below }
+
+  row_values : (es : List PlainExpr) → list_all affine es ≡ true → list_all narrow es ≡ true → list_any (λ e. int_lt (interval (intervals_of u) e).0 (pos 1)) es ≡ false → AllByRecursion (IsExtent u vs) es
+  row_values [] h k p = tt
+  row_values (e ∷ es) h k p =
+      let a = and_parts (affine e) (list_all affine es) h in
+      let b = and_parts (narrow e) (list_all narrow es) k in
+      let c = or_parts (int_lt (interval (intervals_of u) e).0 (pos 1)) (list_any (λ e. int_lt (interval (intervals_of u) e).0 (pos 1)) es) p in
+      (its_value e a.0 b.0 c.0, row_values es a.1 b.1 c.1)
+
+  all_values : AllByRecursion (IsExtent u vs) (extents_in u.params) → (x : Word) → AllByRecursion (IsExtent u vs) (list_of (declared_extents u.params x))
+  all_values h x = of_params u.params h
+    where
+      split : (xs ys : List PlainExpr) → AllByRecursion (IsExtent u vs) (xs ++ ys) → AllByRecursion (IsExtent u vs) xs × AllByRecursion (IsExtent u vs) ys
+      split [] ys h = (tt, h)
+      split (e ∷ xs) ys h = (let r = split xs ys h.1 in ((h.0, r.0), r.1))
+
+      of_params : (ps : List PlainParam) → AllByRecursion (IsExtent u vs) (extents_in ps) → AllByRecursion (IsExtent u vs) (list_of (declared_extents ps x))
+      of_params [] h = tt
+      of_params (int_param y ∷ ps) h = of_params ps h
+      of_params (array_param y c es ∷ ps) h = (let p = split (list_of es) (extents_in ps) h in elim (cases_Bool (bytes_eq y x)) [
+        | inl e ↦ rw e p.0
+        | inr e ↦ rw e (of_params ps p.1)
+      ])
+
+-- ---- the extents of inspected arrays
+
+few_extents : (ps : List PlainParam) (x : Word) → AreParams false ps → length (list_of (declared_extents ps x)) ≤ 3
+few_extents [] x h = omega arith
+few_extents (int_param y ∷ ps) x h = few_extents ps x h.1
+few_extents (array_param y c es ∷ ps) x h = elim (cases_Bool (bytes_eq y x)) [
+  | inl e ↦ rw e h.2
+  | inr e ↦ rw e (few_extents ps x h.3)
+]
+
+array_names_own : (ps : List PlainParam) → list_any (λ p. is_reserved (param_name p)) ps ≡ false → AllOwn (array_names ps)
+array_names_own [] h = tt
+array_names_own (int_param y ∷ ps) h = array_names_own ps (or_parts (is_reserved y) (list_any (λ p. is_reserved (param_name p)) ps) h).1
+array_names_own (array_param y c es ∷ ps) h =
+    let p = or_parts (is_reserved y) (list_any (λ p. is_reserved (param_name p)) ps) h in
+    (reserved_own y p.0, array_names_own ps p.1)
+
+-- the products of the last extents are no greater than the whole
+module _ (u : PlainUnit) (vs : Vars) (s : Stands u [] vs) where
+  abbrev thin : PlainExpr → Bool
+  thin = holds_throughout (is_narrow (intervals_of u))
+
+  row_extents : (es : PlainExprs) → AllByRecursion (IsExtent u vs) (list_of es) → list_all thin (list_of es) ≡ true → cell_count (extents_of vs es) ≤ 4194304 → AreExtents es (extents_of vs es) vs
+  row_extents no_exprs h n l = tt
+  row_extents (more_exprs e es) h n l =
+      let x : IsExtent u vs e = h.0 in
+      let some = x.some in
+      let a = and_parts (thin e) (list_all thin (list_of es)) n in
+      let size : size_of (exact e vs) ≡ x.value = ap size_of x.exactly in
+      let tail : cell_count (extents_of vs es) ≤ 4194304 = last_less (size_of (exact e vs)) (cell_count (extents_of vs es)) (omega arith) l in (
+        (affine_countable u [] vs s e x.affine, wordable (head_scope u) (intervals_of u) e x.affine a.0),
+        (x.value, x.exactly, x.signed_is, x.below),
+        (let m : size_of (exact e vs) * cell_count (extents_of vs es) ≤ 4194304 = l in omega arith),
+        row_extents es h.1 a.1 tail,
+      )
+
+  have_extents : (arrays : List Array) (number : Word → ℕ) (body : PlainStmts) (k : ℕ) (ps : List PlainParam) (cells : List (List ℕ)) → HaveCells (arrays_of vs ps) cells → AllByRecursion (IsExtent u vs) (extents_in ps) →
+      list_all thin (extents_in ps) ≡ true → ((j : ℕ) → extents_at arrays (k + j) ≡ extents_at (arrays_of vs ps) j) → HaveExtents number body (extents_at arrays) vs k (arrays_with_extents ps)
+  have_extents arrays number body k [] cells c h n same = tt
+  have_extents arrays number body k (int_param y ∷ ps) cells c h n same = have_extents arrays number body k ps cells c h n same
+  have_extents arrays number body k (array_param y constant es ∷ ps) [] c h n same = absurd c
+  have_extents arrays number body k (array_param y constant es ∷ ps) (ws ∷ cells) c h n same =
+      let p = parts_of (list_of es) (extents_in ps) h in
+      let q = and_parts (list_all thin (list_of es)) (list_all thin (extents_in ps)) (sym (list_all-append thin (list_of es) (extents_in ps)) ∙ n) in
+      let here : extents_at arrays k ≡ extents_of vs es = ap (extents_at arrays) (let z : k ≡ k + 0 = omega arith in z) ∙ same 0 in (
+        (λ inspected. subst (λ zs. AreExtents es zs vs) (sym here) (row_extents es p.0 q.0 c.0.few)),
+        have_extents arrays number body (suc k) ps cells c.1 p.1 q.1 (λ j. ap (extents_at arrays) (let z : suc k + j ≡ k + suc j = omega arith in z) ∙ same (suc j)),
+      )
+    where
+      parts_of : (xs ys : List PlainExpr) → AllByRecursion (IsExtent u vs) (xs ++ ys) → AllByRecursion (IsExtent u vs) xs × AllByRecursion (IsExtent u vs) ys
+      parts_of [] ys h = (tt, h)
+      parts_of (e ∷ xs) ys h = (let r = parts_of xs ys h.1 in ((h.0, r.0), r.1))
+
 -- ---- scalars
 
 literals_small : (ws : List (Word × ℕ)) → AreWords false ws → (x : Word) → literal_of ws x < 2 ^ 64
@@ -175,10 +299,14 @@ pub record HeadIs (u : PlainUnit) (ns : List ℤ) : Type 0 where
   pub few_arrays : length (array_names u.params) < 2 ^ 64
   pub ranks : HaveRanks (arrays_with_extents u.params)
   pub literals : (x : Word) → literal_of u.words x < 2 ^ 64
+  pub names : AllOwn (array_names u.params)
+  pub short : (x : Word) → length (list_of (declared_extents u.params x)) ≤ 3
 
 pub record Ranged (u : PlainUnit) (ns : List ℤ) : Type 0 where
   pub suits : Suits (intervals_of u) (head_scope u) (vars_of u.params ns)
   pub measured : AreMeasured (vars_of u.params ns) u.params
+  pub values : (x : Word) → AllByRecursion (IsExtent u (vars_of u.params ns)) (list_of (declared_extents u.params x))
+  pub extents : (arrays : List Array) (number : Word → ℕ) (body : PlainStmts) (cells : List (List ℕ)) → arrays ≡ arrays_of (vars_of u.params ns) u.params → HaveCells arrays cells → HaveExtents number body (extents_at arrays) (vars_of u.params ns) 0 (arrays_with_extents u.params)
 
 module _ (u : PlainUnit) (t : IsSourceTree u) (c : Unrefused u) where
   free : ((list_any (λ p. is_reserved (param_name p)) u.params || list_any (λ w. is_reserved w.0) u.words) ≡ false)
@@ -212,6 +340,8 @@ module _ (u : PlainUnit) (t : IsSourceTree u) (c : Unrefused u) where
         few_arrays = omega arith;
         ranks = ranks_of u.params t.head.params;
         literals = literals_small u.words t.head.words;
+        names = array_names_own u.params free_params;
+        short = λ x. few_extents u.params x t.head.params;
       }
 
   pub ranged : (ns : List ℤ) → AreInRange u.ranges u.params ns → Ranged u ns
@@ -219,9 +349,16 @@ module _ (u : PlainUnit) (t : IsSourceTree u) (c : Unrefused u) where
       let suits : Suits (intervals_of u) (head_scope u) (vars_of u.params ns) = record { within = value_within u.ranges u.params ns h } in
       let others = (or_parts (is_among u.wides u.name) _ (or_parts (is_scalar u.words u.name) _ (or_parts (is_param u.params u.name) _ c.once.head).1).1).1 in
       let once = (or_parts (params_twice u.params) (words_twice u.params u.words || wides_twice u.params u.words u.wides) others).0 in
+      let vs : Vars = vars_of u.params ns in
+      let stands = (head_is ns).stands in
+      let affine = not-false (list_all (is_affine (head_scope u)) (extents_in u.params)) c.affine.head in
+      let narrow = not-false (list_all (holds_throughout (is_narrow (intervals_of u))) (extents_in u.params)) c.narrow.head in
+      let row = row_values u vs stands suits (extents_in u.params) affine narrow c.positive in
       record {
         suits = suits;
-        measured = measured u (vars_of u.params ns) (head_is ns).stands suits u.params once t.head.params
-            (not-false (list_all (is_affine (head_scope u)) (extents_in u.params)) c.affine.head)
-            (not-false (list_all (holds_throughout (is_narrow (intervals_of u))) (extents_in u.params)) c.narrow.head);
+        measured = measured u vs stands suits u.params once t.head.params affine narrow;
+        values = all_values u vs stands suits row;
+        extents = λ arrays number body cells same have.
+            have_extents u vs stands arrays number body 0 u.params cells (subst (λ l. HaveCells l cells) same have) row narrow
+            (λ j. ap (extents_at arrays) (let z : 0 + j ≡ j = omega arith in z) ∙ ap (λ l. extents_at l j) same);
       }

@@ -9,3 +9,4 @@ pub mod Units
 pub mod Values
 pub mod Words
 pub mod Worked
+pub mod IndexArrays

@@ -1,10 +1,11 @@
--- Two sources that are accepted: a nest without irregular subscripts, and a read through an index array.
+-- Three sources that are accepted: a nest without irregular subscripts, a read through an index array, and one through two of them.
 use Rattle.std.proofs.Common.{refl, arith, codes, false}
 use Rattle.std.proofs.lemmas.Int.{ints}
 use Rattle.acceptance.specs.Trees.{IsNameIn, IsSourceTree}
 use Rattle.acceptance.specs.WorkedSources.{gather, mix}
 use Rattle.acceptance.specs.Sources.{IsAcceptedSource}
 use Rattle.source_laws.specs.Laws.{IsRegularSource}
+use Rattle.source_laws.specs.Worked.{two_indices}
 
 name_n : IsNameIn false (codes "n")
 name_n = record { word = refl; free = refl; short = omega arith }
@@ -35,6 +36,9 @@ name_x = record { word = refl; free = refl; short = omega arith }
 
 name_y : IsNameIn false (codes "Y")
 name_y = record { word = refl; free = refl; short = omega arith }
+
+name_q : IsNameIn false (codes "Q")
+name_q = record { word = refl; free = refl; short = omega arith }
 
 nest_tree : IsSourceTree mix
 nest_tree = record {
@@ -100,3 +104,22 @@ gather_tree = record {
 
 pub gather_accepted : IsAcceptedSource gather
 gather_accepted = record { tree = gather_tree; refused_nowhere = refl }
+
+two_tree : IsSourceTree two_indices
+two_tree = record {
+  version = refl;
+  no_wides = refl;
+  head = record {
+    ranges = (record { name = name_n; low = (omega (arith, ints), omega (arith, ints)); high = (omega (arith, ints), omega (arith, ints)) }, tt);
+    name = record { word = refl; free = refl; short = omega arith };
+    some_param = λ e. (let f : ⊥ = cc in f);
+    params = (name_n, (name_p, (name_n, tt), omega arith, (name_q, (name_n, tt), omega arith, (name_x, ((omega arith, omega arith), (name_n, tt)), omega arith, tt))));
+    words = tt;
+    wides = tt;
+  };
+  body = ((name_i, refl, omega arith, name_n, ((refl, refl, (name_x, ((omega arith, omega arith), (name_i, tt))), (name_x, ((name_p, (name_i, tt)), ((name_q, (name_i, tt)), tt)))), tt)), tt);
+  low = record { stmts = omega arith; exprs = omega arith; extents = omega arith };
+}
+
+pub two_accepted : IsAcceptedSource two_indices
+two_accepted = record { tree = two_tree; refused_nowhere = refl }

@@ -4,7 +4,7 @@ use Rattle.c_tree.specs.Plain.{PlainStmt, begin, verdict, PlainStmts, no_stmts, 
 use Rattle.c_tree.specs.Trees.{stmts_of}
 use Rattle.c_tree.specs.Grammar.Statements.{chain, one, stmts_height}
 use Rattle.acceptance.specs.Heights.{all_exprs_height}
-use Rattle.accepted_laws.specs.Regular.{AllRegular, IsRegular}
+use Rattle.accepted_laws.specs.Suited.{AllSuited, IsSuited}
 use Rattle.acceptance.specs.Trees.{IsSourceTree, IsPrintedTree}
 use Rattle.layout_laws.specs.Fine as fine
 use Rattle.layout_laws.specs.Fine.{LowParams, FineParams, FineUnit}
@@ -85,11 +85,11 @@ unit_tree _ (fine.printed {rs} {ps} {ws} {xs} f us vs ranges its_params before b
 pub tree_of_unit : (u : PlainUnit) → IsTree u → IsSourceTree u ⊎ IsPrintedTree u
 tree_of_unit u h = unit_tree u h.fine h.proper
 
--- a printed text has `begin` among its statements, and no regular source has
-no_begin : (u : PlainUnit) (a rest : List PlainStmt) → AllRegular u (stmts_of (a ++ begin ∷ rest)) [] → ⊥
+-- a printed text has `begin` among its statements, and no suited source has
+no_begin : (u : PlainUnit) (a rest : List PlainStmt) → AllSuited u (stmts_of (a ++ begin ∷ rest)) [] → ⊥
 no_begin u [] rest h = h.0
 no_begin u (s ∷ a) rest h = no_begin u a rest h.1
 
-pub regular_source : (u : PlainUnit) → IsRegular u → IsSourceTree u ⊎ IsPrintedTree u → IsSourceTree u
-regular_source u r (inl t) = t
-regular_source u r (inr t) = absurd (no_begin u t.before (t.after ++ verdict ∷ []) (subst (λ b. AllRegular u b []) t.parts r.body))
+pub suited_source : (u : PlainUnit) → IsSuited u → IsSourceTree u ⊎ IsPrintedTree u → IsSourceTree u
+suited_source u r (inl t) = t
+suited_source u r (inr t) = absurd (no_begin u t.before (t.after ++ verdict ∷ []) (subst (λ b. AllSuited u b []) t.parts r.body))

@@ -5,7 +5,7 @@ use Rattle.c_tree.specs.Fault.{Fault}
 use Rattle.c_tree.specs.Instances.{accesses}
 use Rattle.c_tree.specs.Inputs.{memory_for}
 use Rattle.guard_laws.specs.Guards.{IsFaultIn, IsRead}
-use Rattle.turned_texts.specs.Sources.{sums, one_to_three, fill, five}
+use Rattle.turned_texts.specs.Sources.{sums, one_to_three, fill, five, chase, round}
 use Rattle.std.proofs.Math.Nat.{eq-or-lt_of_le}
 
 -- a bit of a cell of A
@@ -46,3 +46,13 @@ fill_fits = record { array = lit< tt; cell = lit< tt; bit = lit< tt }
 
 pub fill_is_read : IsRead fill five in_fill
 fill_is_read = record { next = 0; later = lit≤ tt; exists = lit< tt; of_cell = refl; reads = refl; first = λ p from below. absurd (omega (arith, below)) }
+
+-- P[0] before its read, 2 and then 10
+abbrev pub in_chase : Fault
+in_chase = record { array = 0; cell = 0; bit = 3; place = 0 }
+
+pub chase_fits : IsFaultIn chase round in_chase
+chase_fits = record { array = lit< tt; cell = lit< tt; bit = lit< tt }
+
+pub chase_is_read : IsRead chase round in_chase
+chase_is_read = record { next = 0; later = lit≤ tt; exists = lit< tt; of_cell = refl; reads = refl; first = λ p from below. absurd (omega (arith, below)) }

@@ -5,8 +5,8 @@ use Rattle.c_tree.specs.Instances.{core}
 use Rattle.c_tree.specs.Inputs.{arrays_for, memory_for, IsSound}
 use Rattle.acceptance.specs.Trees.{IsNameIn, IsSourceTree}
 use Rattle.run_laws.proofs.Within.{clean_is}
-use Rattle.source_laws.specs.Laws.{IsRegularSource}
-use Rattle.turned_texts.specs.Sources.{sums, one_to_three, fill, five}
+use Rattle.acceptance.specs.Sources.{IsAcceptedSource}
+use Rattle.turned_texts.specs.Sources.{sums, one_to_three, fill, five, chase, round, pick, last_cell}
 
 -- ---- the sums are accepted
 
@@ -44,8 +44,8 @@ sums_tree = record {
   low = record { stmts = omega arith; exprs = omega arith; extents = omega arith };
 }
 
-pub sums_regular : IsRegularSource sums
-sums_regular = record { accepted = record { tree = sums_tree; refused_nowhere = refl }; regular = refl }
+pub sums_accepted : IsAcceptedSource sums
+sums_accepted = record { tree = sums_tree; refused_nowhere = refl }
 
 -- ---- their inputs are sound
 
@@ -66,5 +66,31 @@ fill_sound = record {
     cells = (record { count = refl; few = lit≤ tt; small = (lit< tt, (lit< tt, tt)) }, (record { count = refl; few = lit≤ tt; small = (lit< tt, tt) }, tt));
   };
   clean = clean_is (arrays_for fill five.ints) (core fill five.ints (memory_for fill five)) (refl, (refl, (refl, (refl, tt))));
+  few = lit< tt;
+}
+
+pub chase_sound : IsSound chase round
+chase_sound = record {
+  fit = record {
+    ints = ((omega (arith, ints), omega (arith, ints)), tt);
+    cells = (record { count = refl; few = lit≤ tt; small = (lit< tt, (lit< tt, (lit< tt, tt))) }, (record { count = refl; few = lit≤ tt; small = (lit< tt, (lit< tt, (lit< tt, tt))) }, tt));
+  };
+  clean = clean_is (arrays_for chase round.ints) (core chase round.ints (memory_for chase round)) (refl, (refl, (refl, (refl, (refl, (refl, (refl, (refl, (refl, tt)))))))));
+  few = lit< tt;
+}
+
+pub pick_sound : IsSound pick last_cell
+pick_sound = record {
+  fit = record {
+    ints = tt;
+    cells = (
+      record { count = refl; few = lit≤ tt; small = (lit< tt, tt) },
+      (
+        record { count = refl; few = lit≤ tt; small = (lit< tt, tt) },
+        (record { count = refl; few = lit≤ tt; small = (lit< tt, (lit< tt, (lit< tt, (lit< tt, (lit< tt, (lit< tt, tt)))))) }, (record { count = refl; few = lit≤ tt; small = (lit< tt, tt) }, tt)),
+      ),
+    );
+  };
+  clean = clean_is (arrays_for pick last_cell.ints) (core pick last_cell.ints (memory_for pick last_cell)) (refl, (refl, (refl, (refl, tt))));
   few = lit< tt;
 }

@@ -1,3 +1,4 @@
 pub mod Sources
 pub mod Turning
 pub mod Texts
+pub mod IndexTexts

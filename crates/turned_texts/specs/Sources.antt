@@ -1,9 +1,11 @@
--- Two sources whose cells are read more than once, and inputs of theirs.
-use Rattle.std.specs.Prelude.{[], ◌∷◌, pos, codes}
-use Rattle.c_tree.specs.Plain.{Word, PlainExpr, lit, var, bin, int_param, PlainUnit}
+-- Sources whose cells are read more than once, or by index arrays, and inputs of theirs.
+use Rattle.std.specs.Prelude.{true, [], ◌∷◌, pos, codes}
+use Rattle.c_tree.specs.Plain.{Word, PlainExpr, lit, var, bin, int_param, array_param, PlainUnit}
+use Rattle.c_tree.specs.Trees.{exprs_of}
 use Rattle.c_tree.specs.Inputs.{PlainInputs}
 use Rattle.c_tree.specs.declared.expr.BinOp.TheVariants.{Add, Sub}
-use Rattle.examples.specs.Forms.{element, array_of, const_array_of, for_below, set, source, inputs}
+use Rattle.examples.specs.Chase.{chase as chasing}
+use Rattle.examples.specs.Forms.{element, element_2, array_of, const_array_of, for_below, set, source, inputs}
 
 abbrev pub n : Word
 n = codes "n"
@@ -36,3 +38,22 @@ fill = source (codes "fill") (array_of (codes "A") (lit 2) ∷ const_array_of (c
 -- A = 0 0 and B = 5. The accesses, with their values: read B[0] 5, write A[0] 5, read B[0] 5, write A[1] 5
 abbrev pub five : PlainInputs
 five = inputs [] ((0 ∷ 0 ∷ []) ∷ (5 ∷ []) ∷ [])
+
+-- X[i] = X[P[i]] + 1 for i < n
+abbrev pub chase : PlainUnit
+chase = record chasing { ranges = (n, pos 1, pos 1000) ∷ [] }
+
+-- n = 3, P = 2 0 1 and X = 5 6 7. The accesses, with their values:
+-- read P[0] 2, read X[2] 7, write X[0] 8, read P[1] 0, read X[0] 8, write X[1] 9, read P[2] 1, read X[1] 9, write X[2] 10
+abbrev pub round : PlainInputs
+round = inputs (pos 3 ∷ []) ((2 ∷ 0 ∷ 1 ∷ []) ∷ (5 ∷ 6 ∷ 7 ∷ []) ∷ [])
+
+-- Y[0] = X[P[0]][Q[0]], with two rows of three cells
+abbrev pub pick : PlainUnit
+pick = source (codes "pick")
+    (const_array_of (codes "P") (lit 1) ∷ const_array_of (codes "Q") (lit 1) ∷ array_param (codes "X") true (exprs_of (lit 2 ∷ lit 3 ∷ [])) ∷ array_of (codes "Y") (lit 1) ∷ [])
+    (set (element (codes "Y") (lit 0)) (element_2 (codes "X") (element (codes "P") (lit 0)) (element (codes "Q") (lit 0))) ∷ [])
+
+-- P = 1 and Q = 2, the last cell of X
+abbrev pub last_cell : PlainInputs
+last_cell = inputs [] ((1 ∷ []) ∷ (2 ∷ []) ∷ (1 ∷ 2 ∷ 3 ∷ 4 ∷ 5 ∷ 6 ∷ []) ∷ (0 ∷ []) ∷ [])

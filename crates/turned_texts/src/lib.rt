@@ -4,5 +4,6 @@
 
 pub mod accesses;
 pub mod counts;
+pub mod indices;
 pub mod right;
 pub mod totals;

@@ -1,3 +1,6 @@
+pub mod Builds
+pub mod Dimensions
+pub mod Fronts
 pub mod Lists
 pub mod PieceCounts
 pub mod RegisterWords

@@ -3,17 +3,17 @@ use Rattle.std.proofs.Common.{◌≡◌, ℕ, zero, suc, ◌+◌, ◌-◌, ◌<�
 use Rattle.std.specs.Prelude.{nat_lt, nat_eq}
 use Rattle.std.proofs.lemmas.Bool.{ltb-true, ltb-false, ne_eqb}
 use Rattle.std.proofs.lemmas.List.{get_or_append_left, get_or-append_right}
-use Rattle.c_tree.specs.Plain.{Word, PlainExpr, PlainStmt, loop, choice, assign, table, begin, check, verdict, PlainStmts, no_stmts, more_stmts}
+use Rattle.c_tree.specs.Plain.{Word, PlainExpr, PlainExprs, PlainStmt, loop, choice, assign, table, begin, check, verdict, PlainStmts, no_stmts, more_stmts}
 use Rattle.c_tree.specs.Instances.{sites, sites_all}
-use Rattle.instrumentation.specs.Passes.{piece_at, write_piece, write_pieces, write_pieces_all}
+use Rattle.instrumentation.specs.Pieces.{piece_at, site_piece, site_pieces, site_pieces_all}
 use Rattle.unit_builder.specs.Parts.{target_in, target_among}
-use Rattle.unit_builder.proofs.PieceCounts.{length-write_pieces, length-write_pieces_all}
+use Rattle.unit_builder.proofs.PieceCounts.{length-site_pieces, length-site_pieces_all}
 
-module _ (number : Word → ℕ) (whole : PlainStmts) where
+module _ (number : Word → ℕ) (extents : Word → PlainExprs) (whole : PlainStmts) where
   -- the piece of the assignment of number k with this target
   abbrev pub piece_of : ℕ → Option PlainExpr → List PlainStmt
   piece_of k None = []
-  piece_of k (Some t) = write_piece number whole k t
+  piece_of k (Some t) = site_piece number extents whole k t
 
   -- in the first of two lists of pieces, or in the second
   joined : (xs ys : List (List PlainStmt)) (n j k : ℕ) (first other : Option PlainExpr) → length xs ≡ n →
@@ -29,12 +29,12 @@ module _ (number : Word → ℕ) (whole : PlainStmts) where
           get_or-append_right xs ys n k [] long h ∙ there ∙ ap (λ m. piece_of m other) place
 
   mutual
-    pub piece_in : (j k : ℕ) (s : PlainStmt) → piece_at (write_pieces number whole j s) k ≡ piece_of (j + k) (target_in s k)
+    pub piece_in : (j k : ℕ) (s : PlainStmt) → piece_at (site_pieces number extents whole j s) k ≡ piece_of (j + k) (target_in s k)
     piece_in j k (loop x lo rel hi body) = piece_among j k body
     piece_in j k (choice ts first other) =
-        joined (write_pieces_all number whole j first) (write_pieces_all number whole (j + sites_all first) other) (sites_all first) j k (target_among first k) (target_among other (k - sites_all first))
-        (length-write_pieces_all number whole j first) (piece_among j k first) (piece_among (j + sites_all first) (k - sites_all first) other)
-    piece_in j zero (assign t op e) = let h : j ≡ j + 0 = omega arith in ap (λ m. write_piece number whole m t) h
+        joined (site_pieces_all number extents whole j first) (site_pieces_all number extents whole (j + sites_all first) other) (sites_all first) j k (target_among first k) (target_among other (k - sites_all first))
+        (length-site_pieces_all number extents whole j first) (piece_among j k first) (piece_among (j + sites_all first) (k - sites_all first) other)
+    piece_in j zero (assign t op e) = let h : j ≡ j + 0 = omega arith in ap (λ m. site_piece number extents whole m t) h
     piece_in j (suc k) (assign t op e) =
         let later : nat_eq (suc k) 0 ≡ false = ne_eqb (suc k) 0 (λ h. omega arith) in
         sym (ap (λ b. piece_of (j + suc k) (cond b (Some t) None)) later)
@@ -43,14 +43,14 @@ module _ (number : Word → ℕ) (whole : PlainStmts) where
     piece_in j k (check x extent a) = refl
     piece_in j k verdict = refl
 
-    pub piece_among : (j k : ℕ) (ss : PlainStmts) → piece_at (write_pieces_all number whole j ss) k ≡ piece_of (j + k) (target_among ss k)
+    pub piece_among : (j k : ℕ) (ss : PlainStmts) → piece_at (site_pieces_all number extents whole j ss) k ≡ piece_of (j + k) (target_among ss k)
     piece_among j k no_stmts = refl
     piece_among j k (more_stmts s ss) =
-        joined (write_pieces number whole j s) (write_pieces_all number whole (j + sites s) ss) (sites s) j k (target_in s k) (target_among ss (k - sites s))
-        (length-write_pieces number whole j s) (piece_in j k s) (piece_among (j + sites s) (k - sites s) ss)
+        joined (site_pieces number extents whole j s) (site_pieces_all number extents whole (j + sites s) ss) (sites s) j k (target_in s k) (target_among ss (k - sites s))
+        (length-site_pieces number extents whole j s) (piece_in j k s) (piece_among (j + sites s) (k - sites s) ss)
 
-  pub no_target : (k : ℕ) → target_among whole k ≡ None → piece_at (write_pieces_all number whole 0 whole) k ≡ []
+  pub no_target : (k : ℕ) → target_among whole k ≡ None → piece_at (site_pieces_all number extents whole 0 whole) k ≡ []
   no_target k none = piece_among 0 k whole ∙ ap (piece_of (0 + k)) none
 
-  pub some_target : (k : ℕ) (t : PlainExpr) → target_among whole k ≡ Some t → piece_at (write_pieces_all number whole 0 whole) k ≡ write_piece number whole k t
-  some_target k t some = let h : 0 + k ≡ k = omega arith in piece_among 0 k whole ∙ ap (piece_of (0 + k)) some ∙ ap (λ m. write_piece number whole m t) h
+  pub some_target : (k : ℕ) (t : PlainExpr) → target_among whole k ≡ Some t → piece_at (site_pieces_all number extents whole 0 whole) k ≡ site_piece number extents whole k t
+  some_target k t some = let h : 0 + k ≡ k = omega arith in piece_among 0 k whole ∙ ap (piece_of (0 + k)) some ∙ ap (λ m. site_piece number extents whole m t) h

@@ -1,20 +1,41 @@
 -- An accepted source is small.
-use Rattle.std.proofs.Common.{◌≤◌, List, [], ◌∷◌, ◌++◌, Option, Some, None, arith}
+use Rattle.std.proofs.Common.{ℕ, ◌+◌, ◌≤◌, List, [], ◌∷◌, ◌++◌, Option, Some, None, arith}
 use Rattle.std.specs.List.{AllByRecursion}
-use Rattle.c_tree.specs.Plain.{Word, PlainExpr, lit, var, cell, un, bin, cast, test, umin, umax, least, greatest, widen, big, PlainStmt, loop, choice, assign, table, begin, check, verdict, PlainStmts, no_stmts, more_stmts, PlainUnit}
+use Rattle.c_tree.specs.Plain.{Word, PlainExpr, lit, var, cell, un, bin, cast, test, umin, umax, least, greatest, widen, big, PlainExprs, no_exprs, more_exprs, PlainStmt, loop, choice, assign, table, begin, check, verdict, PlainStmts, no_stmts, more_stmts, PlainUnit}
 use Rattle.c_tree.specs.declared.expr.BinOp.{BinOp}
 use Rattle.acceptance.specs.Items.{Item, Loop, items, items_all, tables_after}
-use Rattle.acceptance.specs.Limits.{cells_in, reads_of}
+use Rattle.acceptance.specs.Limits.{cells_in, cells_in_all, reads_of}
 use Rattle.acceptance.specs.Sources.{IsAcceptedSource}
+use Rattle.instrumentation.specs.Subscripts.{by_cell, indices_in}
 use Rattle.instrumentation.specs.Body.{reads_in, full, registers, registers_all}
 use Rattle.unit_builder.specs.Small.{IsSmall}
 use Rattle.unit_builder.proofs.Unrefused.{few_assignments, few_reads}
+
+-- index cells are among the cells of a list
+by_cell_within : (e : PlainExpr) (n m : ℕ) → n ≤ m → by_cell e (λ x at. 1 + n) n ≤ cells_in e + m
+by_cell_within (lit k) n m h = omega arith
+by_cell_within (var x) n m h = omega arith
+by_cell_within (cell x at) n m h = omega arith
+by_cell_within (un op a) n m h = omega arith
+by_cell_within (bin op a b) n m h = omega arith
+by_cell_within (cast a) n m h = omega arith
+by_cell_within (test rel a b) n m h = omega arith
+by_cell_within (umin a b) n m h = omega arith
+by_cell_within (umax a b) n m h = omega arith
+by_cell_within (least a b) n m h = omega arith
+by_cell_within (greatest a b) n m h = omega arith
+by_cell_within (widen a) n m h = omega arith
+by_cell_within (big high low) n m h = omega arith
+
+indices_within : (es : PlainExprs) → indices_in es ≤ cells_in_all es
+indices_within no_exprs = omega arith
+indices_within (more_exprs e es) = by_cell_within e (indices_in es) (cells_in_all es) (indices_within es)
 
 -- the cells that an expression reads are among those that stand in it
 reads_within : (e : PlainExpr) → reads_in e ≤ cells_in e
 reads_within (lit n) = omega arith
 reads_within (var x) = omega arith
-reads_within (cell x at) = omega arith
+reads_within (cell x at) = let h = indices_within at in omega arith
 reads_within (un op a) = reads_within a
 reads_within (bin op a b) = let g = reads_within a in let h = reads_within b in omega arith
 reads_within (cast a) = reads_within a

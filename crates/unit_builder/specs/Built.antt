@@ -11,9 +11,9 @@ abbrev pub Adds : List Stmt → List Stmt → List PlainStmt → Type 0
 Adds old new more = map stmt new ≡ map stmt old ++ more
 
 -- the loads of an expression were added, and the expression over their words was made
-abbrev pub AddsLoads : (Word → ℕ) → PlainExpr → Loads → Loads → PlainExpr → Type 0
-AddsLoads number e old new made =
-    Adds old.out new.out (loads_text number e old.next) × (new.next ≡ old.next + reads_in e) × (made ≡ pure e old.next)
+abbrev pub AddsLoads : (Word → ℕ) → (Word → PlainExprs) → PlainExpr → Loads → Loads → PlainExpr → Type 0
+AddsLoads number extents e old new made =
+    Adds old.out new.out (loads_text number extents e old.next) × (new.next ≡ old.next + reads_in e) × (made ≡ pure e old.next)
 
 -- the pieces by number
 abbrev pub pieces_in : List (List Stmt) → ℕ → List PlainStmt

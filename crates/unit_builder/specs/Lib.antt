@@ -4,5 +4,6 @@ pub mod Counted
 pub mod Numbered
 pub mod Parts
 pub mod Small
+pub mod Walks
 pub mod Weight
 pub mod Words

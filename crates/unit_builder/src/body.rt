@@ -1,17 +1,23 @@
-//! Instrumented statements: each access once, and each total brought up to date.
+//! Instrumented statements: each access once, each total brought up to date, and each index word
+//! compared with its extent before the cell that it names is read.
 
-ghost use Rattle.std.specs.Prelude.{◌≡◌, ◌+◌, ◌∷◌, [], ◌<◌, ◌≤◌, ◌^◌, IfOk, OnOk, Some, None, length, map};
-ghost use Rattle.c_tree.specs.Plain.{assign as assigns, cell, var, widen};
+ghost use Rattle.std.specs.Prelude.{◌≡◌, ◌+◌, ◌++◌, ◌∷◌, [], ◌<◌, ◌≤◌, ◌^◌, IfOk, OnOk, Some, None, length, map};
+ghost use Rattle.c_tree.specs.Plain.{PlainExprs, more_exprs, assign as assigns, cell, var, widen};
 ghost use Rattle.c_tree.specs.Trees.{expr, exprs, stmt, stmts};
 ghost use Rattle.c_tree.specs.Instances.{sites, sites_all};
-ghost use Rattle.instrumentation.specs.Body.{reads_in, registers, registers_all, full, add_text, store_text, assigned_text, instrument, instrument_all};
+ghost use Rattle.instrumentation.specs.Body as body;
+ghost use Rattle.instrumentation.specs.Body.{reads_in, registers, registers_all, full, load_text, index_loads, index_checks, add_text, store_text, assigned_text, instrument, instrument_all};
 ghost use Rattle.instrumentation.specs.Names as names;
+ghost use Rattle.instrumentation.specs.Subscripts.{indices_in};
 ghost use Rattle.unit_builder.specs.Built.{Adds, AddsLoads, pieces_in};
-ghost use Rattle.unit_builder.specs.Numbered.{numbers};
+ghost use Rattle.unit_builder.specs.Numbered.{numbers, sizes};
 
+use crate::cells::shared_length;
 use crate::counts::{count_sites, count_sites_of_all};
-use crate::names::{definition_total, number_of, register, stored_word, use_count, use_total};
-use crate::statements::{assign, repeat};
+use crate::names::{
+    definition_total, extents_of, number_of, register, stored_word, use_count, use_total,
+};
+use crate::statements::{assign, check, checked_array, repeat};
 use c_tree::{BinOp, Copied, Expr, Exprs, Name, OutOfMemory, Param, Stmt, Stmts};
 use sqlite_items::Items;
 use std::alloc::Global;
@@ -24,8 +30,8 @@ pub struct Loads {
 }
 
 impl Loads {
-    /// Loads a cell, and gives the loaded word.
-    fn load_cell(
+    /// Loads a cell by subscripts that read no cell, and gives the loaded word.
+    fn load_one(
         &mut self,
         alloc: Global,
         params: &[Param],
@@ -33,8 +39,10 @@ impl Loads {
         at: &Exprs,
     ) -> Result<Expr, OutOfMemory>
         requires { self.old.next + 1 < 2 ^ 64 }
-        ensures { IfOk result (λ made. AddsLoads (numbers params.now)
-            (cell name.now.bytes (exprs at.now)) self.old self.new (expr made)) }
+        ensures { IfOk result (λ made. Adds self.old.out self.new.out
+            (load_text (numbers params.now name.now.bytes) name.now.bytes (exprs at.now)
+            self.old.next) × (self.new.next ≡ self.old.next + 1)
+            × (expr made ≡ var (names.register self.old.next))) }
     {
         let load = self.next;
         self.out.push(read_cell(alloc, load, name, at)?)?;
@@ -44,13 +52,70 @@ impl Loads {
         Ok(Expr::Var(register(alloc, load)?))
     }
 
+    /// Loads a subscript that is a cell.
+    fn load_index(&mut self, alloc: Global, params: &[Param], e: &Expr) -> Result<(), OutOfMemory>
+        requires { self.old.next + 1 < 2 ^ 64 }
+        ensures loads { OnOk result ((es : PlainExprs) →
+            map stmt self.new.out ++ index_loads (numbers params.now) es self.new.next
+            ≡ map stmt self.old.out
+            ++ index_loads (numbers params.now) (more_exprs (expr e.now) es) self.old.next) }
+        ensures next { OnOk result ((es : PlainExprs) → self.new.next + indices_in es
+            ≡ self.old.next + indices_in (more_exprs (expr e.now) es)) }
+    {
+        match e {
+            Expr::Cell(name, inner) => {
+                self.load_one(alloc, params, name, inner)?;
+                Ok(())
+            }
+            _ => Ok(()),
+        }
+    }
+
+    /// Loads the index cells of a cell's subscripts.
+    fn load_indices(
+        &mut self,
+        alloc: Global,
+        params: &[Param],
+        at: &Exprs,
+    ) -> Result<(), OutOfMemory>
+        requires { self.old.next + (indices_in (exprs at.now) + 1) < 2 ^ 64 }
+        ensures { OnOk result (Adds self.old.out self.new.out
+            (index_loads (numbers params.now) (exprs at.now) self.old.next)
+            × (self.new.next ≡ self.old.next + indices_in (exprs at.now))) }
+    {
+        for e in at.as_slice() {
+            self.load_index(alloc, params, e)?;
+        }
+        Ok(())
+    }
+
+    /// Loads a cell, after its index cells and the checks of their words, and gives the loaded
+    /// word.
+    fn load_cell(
+        &mut self,
+        alloc: Global,
+        params: &[Param],
+        name: &Name,
+        at: &Exprs,
+    ) -> Result<Expr, OutOfMemory>
+        requires { self.old.next + (indices_in (exprs at.now) + 2) < 2 ^ 64 }
+        ensures { IfOk result (λ made. AddsLoads (numbers params.now) (sizes params.now)
+            (cell name.now.bytes (exprs at.now)) self.old self.new (expr made)) }
+    {
+        let first = self.next;
+        self.load_indices(alloc, params, at)?;
+        add_checks(alloc, params, name, at, first, &mut self.out)?;
+        let words = by_words(alloc, at, first)?;
+        self.load_one(alloc, params, name, &words)
+    }
+
     /// Loads the cells of an expression from left to right, and gives the expression over the
     /// loaded words.
     #[cycle(load)]
     fn load(&mut self, alloc: Global, params: &[Param], e: &Expr) -> Result<Expr, OutOfMemory>
-        requires { self.old.next + reads_in (expr e.now) < 2 ^ 64 }
+        requires { self.old.next + (reads_in (expr e.now) + 1) < 2 ^ 64 }
         ensures { IfOk result (λ made.
-            AddsLoads (numbers params.now) (expr e.now) self.old self.new (expr made)) }
+            AddsLoads (numbers params.now) (sizes params.now) (expr e.now) self.old self.new (expr made)) }
     {
         match e {
             Expr::Cell(name, at) => self.load_cell(alloc, params, name, at),
@@ -88,12 +153,95 @@ impl Loads {
         params: &[Param],
         e: &Expr,
     ) -> Result<Box<Expr>, OutOfMemory>
-        requires { self.old.next + reads_in (expr e.now) < 2 ^ 64 }
+        requires { self.old.next + (reads_in (expr e.now) + 1) < 2 ^ 64 }
         ensures { IfOk result (λ made.
-            AddsLoads (numbers params.now) (expr e.now) self.old self.new (expr made.value)) }
+            AddsLoads (numbers params.now) (sizes params.now) (expr e.now) self.old self.new (expr made.value)) }
     {
         Ok(Box::new(alloc, self.load(alloc, params, e)?)?)
     }
+}
+
+/// The subscripts of a cell with the words from `first` on in place of its index cells.
+fn by_words(alloc: Global, at: &Exprs, first: u64) -> Result<Exprs, OutOfMemory>
+    requires { first + indices_in (exprs at.now) < 2 ^ 64 }
+    ensures { IfOk result (λ made. exprs made ≡ body.by_words (exprs at.now) first) }
+{
+    let mut made = Items::new(alloc);
+    let mut next = first;
+    for e in at.as_slice() {
+        if let Expr::Cell(_, _) = e {
+            made.push(Expr::Var(register(alloc, next)?))?;
+            next += 1;
+        } else {
+            made.push(e.copy(alloc)?)?;
+        }
+    }
+    Ok(made)
+}
+
+/// Adds the check of the word of this number where a subscript is a cell, and gives the number of
+/// the next word.
+fn add_index_check(
+    alloc: Global,
+    array: u32,
+    e: &Expr,
+    extent: &Expr,
+    word: u64,
+    out: &mut Stmts,
+) -> Result<u64, OutOfMemory>
+    requires { word + 1 < 2 ^ 64 }
+    ensures checks { IfOk result (λ next. (es ns : PlainExprs) →
+        map stmt out.new ++ index_checks array es ns next ≡ map stmt out.old
+        ++ index_checks array (more_exprs (expr e.now) es) (more_exprs (expr extent.now) ns) word) }
+    ensures next { IfOk result (λ next. (es : PlainExprs) →
+        next + indices_in es ≡ word + indices_in (more_exprs (expr e.now) es)) }
+{
+    match e {
+        Expr::Cell(_, _) => {
+            out.push(check(alloc, register(alloc, word)?, extent, array)?)?;
+            Ok(word + 1)
+        }
+        _ => Ok(word),
+    }
+}
+
+/// Adds the checks of the words from `first` on against the extents of an array.
+fn add_index_checks(
+    alloc: Global,
+    array: u32,
+    at: &[Expr],
+    extents: &[Expr],
+    first: u64,
+    out: &mut Stmts,
+) -> Result<(), OutOfMemory>
+    requires { first + (indices_in (exprs at.now) + 1) < 2 ^ 64 }
+    ensures { OnOk result (Adds out.old out.new
+        (index_checks array (exprs at.now) (exprs extents.now) first)) }
+{
+    let mut next = first;
+    for dimension in 0..shared_length(at, extents) {
+        next = add_index_check(alloc, array, &at[dimension], &extents[dimension], next, out)?;
+    }
+    Ok(())
+}
+
+/// Adds the checks of the index words of a cell, the words from `first` on.
+fn add_checks(
+    alloc: Global,
+    params: &[Param],
+    name: &Name,
+    at: &Exprs,
+    first: u64,
+    out: &mut Stmts,
+) -> Result<(), OutOfMemory>
+    requires { first + (indices_in (exprs at.now) + 1) < 2 ^ 64 }
+    ensures { OnOk result (Adds out.old out.new
+        (index_checks (numbers params.now name.now.bytes) (exprs at.now)
+        (sizes params.now name.now.bytes) first)) }
+{
+    let array = checked_array(number_of(params, name))?;
+    let extents = extents_of(params, name);
+    add_index_checks(alloc, array, at.as_slice(), extents, first, out)
 }
 
 /// A cell is read into the word of this number.
@@ -189,7 +337,7 @@ pub fn full_value(
 }
 
 /// Adds an assignment of a whole value, with the piece of its definition.
-fn add_assignment(
+fn add_whole(
     alloc: Global,
     params: &[Param],
     piece: &Stmts,
@@ -197,10 +345,10 @@ fn add_assignment(
     full: &Expr,
     out: &mut Stmts,
 ) -> Result<(), OutOfMemory>
-    requires { reads_in (expr full.now) < 2 ^ 64 }
+    requires { reads_in (expr full.now) + 1 < 2 ^ 64 }
     ensures { OnOk result (Adds out.old out.new
-        (assigned_text (numbers params.now) (map stmt piece.now) (expr target.now)
-        (expr full.now))) }
+        (assigned_text (numbers params.now) (sizes params.now) (map stmt piece.now)
+        (expr target.now) (expr full.now))) }
 {
     let mut loads = Loads {
         out: Items::new(alloc),
@@ -217,6 +365,25 @@ fn add_assignment(
     Ok(())
 }
 
+/// Adds an assignment, with the piece of its definition.
+fn add_assignment(
+    alloc: Global,
+    params: &[Param],
+    piece: &Stmts,
+    target: &Expr,
+    op: Option<BinOp>,
+    value: &Expr,
+    out: &mut Stmts,
+) -> Result<(), OutOfMemory>
+    requires { reads_in (full (expr target.now) op (expr value.now)) + 1 < 2 ^ 64 }
+    ensures { OnOk result (Adds out.old out.new
+        (assigned_text (numbers params.now) (sizes params.now) (map stmt piece.now)
+        (expr target.now) (full (expr target.now) op (expr value.now)))) }
+{
+    let full = full_value(alloc, target, op, value)?;
+    add_whole(alloc, params, piece, target, &full, out)
+}
+
 /// Adds a statement of the source, whose assignments have the numbers from `first` on.
 #[cycle(instrument)]
 fn add_instrumented(
@@ -227,10 +394,10 @@ fn add_instrumented(
     s: &Stmt,
     out: &mut Stmts,
 ) -> Result<(), OutOfMemory>
-    requires few { registers (stmt s.now) < 2 ^ 64 }
+    requires few { registers (stmt s.now) + 1 < 2 ^ 64 }
     requires given { first + sites (stmt s.now) ≤ length pieces.now }
     ensures { OnOk result (Adds out.old out.new
-        (instrument (numbers params.now) (pieces_in pieces.now) first (stmt s.now))) }
+        (instrument (numbers params.now) (sizes params.now) (pieces_in pieces.now) first (stmt s.now))) }
 {
     match s {
         Stmt::For {
@@ -255,8 +422,7 @@ fn add_instrumented(
             Ok(())
         }
         Stmt::Assign { target, op, value } => {
-            let full = full_value(alloc, target, *op, value)?;
-            add_assignment(alloc, params, &pieces[first], target, &full, out)
+            add_assignment(alloc, params, &pieces[first], target, *op, value, out)
         }
         Stmt::Table { .. } | Stmt::Begin | Stmt::Check { .. } | Stmt::Verdict => Ok(()),
     }
@@ -272,10 +438,10 @@ pub fn instrumented(
     first: usize,
     body: &Stmts,
 ) -> Result<Stmts, OutOfMemory>
-    requires few { registers_all (stmts body.now) < 2 ^ 64 }
+    requires few { registers_all (stmts body.now) + 1 < 2 ^ 64 }
     requires given { first + sites_all (stmts body.now) ≤ length pieces.now }
     ensures { IfOk result (λ made. map stmt made
-        ≡ instrument_all (numbers params.now) (pieces_in pieces.now) first (stmts body.now)) }
+        ≡ instrument_all (numbers params.now) (sizes params.now) (pieces_in pieces.now) first (stmts body.now)) }
 {
     let mut out = Items::new(alloc);
     let mut next = first;

@@ -1,11 +1,12 @@
 //! How many assignments, reads and loaded words a source has.
 
 ghost use Rattle.std.specs.Prelude.{◌≡◌, ◌+◌, ◌<◌, ◌^◌};
-ghost use Rattle.c_tree.specs.Trees.{expr, stmt, stmts};
+ghost use Rattle.c_tree.specs.Trees.{expr, exprs, stmt, stmts};
 ghost use Rattle.c_tree.specs.Instances.{sites, sites_all};
 ghost use Rattle.instrumentation.specs.Body.{reads_in, registers, registers_all};
+ghost use Rattle.instrumentation.specs.Subscripts.{indices_in};
 
-use c_tree::{Expr, Stmt, Stmts};
+use c_tree::{Expr, Exprs, Stmt, Stmts};
 
 /// The number of assignments in a statement.
 #[cycle(count_sites)]
@@ -34,13 +35,27 @@ pub fn count_sites_of_all(body: &Stmts) -> usize
     count
 }
 
+/// The number of subscripts that are cells.
+fn count_indices(at: &Exprs) -> u64
+    requires { indices_in (exprs at.now) < 2 ^ 64 }
+    ensures { result ≡ indices_in (exprs at.now) }
+{
+    let mut count = 0;
+    for e in at.as_slice() {
+        if let Expr::Cell(_, _) = e {
+            count += 1;
+        }
+    }
+    count
+}
+
 /// The number of cells that an expression reads.
 fn count_reads(e: &Expr) -> u64
     requires { reads_in (expr e.now) < 2 ^ 64 }
     ensures { result ≡ reads_in (expr e.now) }
 {
     match e {
-        Expr::Cell(_, _) => 1,
+        Expr::Cell(_, at) => count_indices(at) + 1,
         Expr::Un(_, a) | Expr::Cast(a) => count_reads(a),
         Expr::Bin(_, a, b) | Expr::Test(_, a, b) | Expr::Min(a, b) | Expr::Max(a, b) => {
             count_reads(a) + count_reads(b)

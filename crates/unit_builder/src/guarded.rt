@@ -1,13 +1,14 @@
-//! The whole instrumented unit of a source, by counting passes.
+//! The whole instrumented unit of a source: counts by tables for inspected arrays, and by counting
+//! passes for all others.
 
-ghost use Rattle.std.specs.Prelude.{◌≡◌, ◌<◌, ◌^◌, ◌++◌, ◌∷◌, IfOk, OnOk, map};
+ghost use Rattle.std.specs.Prelude.{◌≡◌, ◌<◌, ◌^◌, ◌++◌, ◌∷◌, IfOk, OnOk, map, max};
 ghost use Rattle.c_tree.specs.Trees.{param, stmt, stmts, unit, word};
 ghost use Rattle.c_tree.specs.Instances.{sites_all};
-ghost use Rattle.instrumentation.specs.Body.{instrument_all};
+ghost use Rattle.instrumentation.specs.Body.{instrument_all, registers_all};
 ghost use Rattle.instrumentation.specs.Guarded as guarded;
 ghost use Rattle.instrumentation.specs.Names as names;
-ghost use Rattle.instrumentation.specs.Passes.{piece_at, write_pieces_all};
-ghost use Rattle.unit_builder.specs.Numbered.{numbers};
+ghost use Rattle.instrumentation.specs.Pieces.{piece_at, site_pieces_all, table_words};
+ghost use Rattle.unit_builder.specs.Numbered.{numbers, sizes};
 ghost use Rattle.unit_builder.specs.Words.{plain_words};
 ghost use Rattle.unit_builder.specs.Small.{IsSmall};
 
@@ -17,8 +18,10 @@ use crate::names::{
     active_word, counter_word, definition_total, function_name, register, stored_word, use_count,
     use_total,
 };
-use crate::pieces::write_pieces;
+use crate::pieces::site_pieces;
 use crate::prologue::add_prologue;
+use crate::table_words::add_table_words;
+use crate::tables::add_builds;
 use c_tree::{Copied, NameList, OutOfMemory, Param, Stmt, Stmts, Unit, Words};
 use sqlite_items::Items;
 use std::alloc::Global;
@@ -34,8 +37,8 @@ fn add_registers(alloc: Global, registers: u64, words: &mut Words) -> Result<(),
     Ok(())
 }
 
-/// The words of 64 bits: those of the source, and the text's own, of which so many are for loads.
-fn words(alloc: Global, source: &Words, registers: u64) -> Result<Words, OutOfMemory>
+/// The words of the source, and those that each text has, of which so many are for loads.
+fn own_words(alloc: Global, source: &Words, registers: u64) -> Result<Words, OutOfMemory>
     ensures { IfOk result (λ made. plain_words made
         ≡ plain_words source.now ++ guarded.own_words registers) }
 {
@@ -44,6 +47,25 @@ fn words(alloc: Global, source: &Words, registers: u64) -> Result<Words, OutOfMe
     words.push((stored_word(alloc)?, 0))?;
     words.push((active_word(alloc)?, 0))?;
     words.push((counter_word(alloc)?, 0))?;
+    Ok(words)
+}
+
+/// The words of 64 bits: those of the source, and the text's own.
+fn words(
+    alloc: Global,
+    source: &Words,
+    params: &[Param],
+    whole: &Stmts,
+) -> Result<Words, OutOfMemory>
+    requires { registers_all (stmts whole.now) < 2 ^ 64 }
+    ensures { IfOk result (λ made. plain_words made ≡ plain_words source.now
+        ++ guarded.own_words (max 1 (registers_all (stmts whole.now)))
+        ++ table_words (numbers params.now) (stmts whole.now)
+        (guarded.arrays_with_extents (map param params.now))) }
+{
+    let registers = std::cmp::max(1, count_registers_of_all(whole));
+    let mut words = own_words(alloc, source, registers)?;
+    add_table_words(alloc, params, whole, &mut words)?;
     Ok(words)
 }
 
@@ -69,22 +91,23 @@ fn wides(alloc: Global, params: &[Param]) -> Result<NameList, OutOfMemory>
 #[tactic(auto, unfolding(crate::specs::Small::IsSmall))]
 fn guarded_statements(alloc: Global, params: &[Param], whole: &Stmts) -> Result<Stmts, OutOfMemory>
     requires { IsSmall (stmts whole.now) }
-    ensures { IfOk result (λ made. map stmt made ≡ instrument_all (numbers params.now)
-        (piece_at (write_pieces_all (numbers params.now) (stmts whole.now) 0 (stmts whole.now)))
-        0 (stmts whole.now)) }
+    ensures { IfOk result (λ made. map stmt made ≡ instrument_all (numbers params.now) (sizes params.now)
+        (piece_at (site_pieces_all (numbers params.now) (sizes params.now) (stmts whole.now) 0
+        (stmts whole.now))) 0 (stmts whole.now)) }
 {
-    let pieces = write_pieces(alloc, params, whole)?;
+    let pieces = site_pieces(alloc, params, whole)?;
     instrumented(alloc, params, pieces.as_slice(), 0, whole)
 }
 
-/// The prologue, the instrumented statements and the comparison of all totals.
-#[tactic(auto, unfolding(crate::specs::Numbered::passes_of))]
+/// The tables, the prologue, the instrumented statements and the comparison of all totals.
+#[tactic(auto, unfolding(crate::specs::Numbered::initial_of))]
 fn guarded_text(alloc: Global, params: &[Param], whole: &Stmts) -> Result<Stmts, OutOfMemory>
     requires { IsSmall (stmts whole.now) }
     ensures { IfOk result (λ made. map stmt made
         ≡ guarded.guarded_body (map param params.now) (stmts whole.now)) }
 {
     let mut text = Items::new(alloc);
+    add_builds(alloc, params, whole, &mut text)?;
     add_prologue(alloc, params, whole, &mut text)?;
     text.push(Stmt::Begin)?;
     text.append(guarded_statements(alloc, params, whole)?)?;
@@ -101,8 +124,7 @@ pub fn instrumented_unit(alloc: Global, source: &Unit) -> Result<Unit, OutOfMemo
     let ranges = source.ranges.copy(alloc)?;
     let name = function_name(alloc, &source.name)?;
     let params = source.params.copy(alloc)?;
-    let registers = std::cmp::max(1, count_registers_of_all(&source.body));
-    let words = words(alloc, &source.words, registers)?;
+    let words = words(alloc, &source.words, source.params.as_slice(), &source.body)?;
     let wides = wides(alloc, source.params.as_slice())?;
     let body = guarded_text(alloc, source.params.as_slice(), &source.body)?;
     Ok(Unit {

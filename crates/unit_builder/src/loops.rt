@@ -98,7 +98,7 @@ fn rename_boxed(alloc: Global, e: &Expr, loops: &Loops<'_>) -> Result<Box<Expr>,
 
 /// The copy's expressions for a list of the source's.
 #[cycle(rename_expr)]
-fn rename_exprs(
+pub fn rename_exprs(
     alloc: Global,
     list: &Items<Expr>,
     loops: &Loops<'_>,

@@ -1,10 +1,13 @@
 //! The names that an instrumented text adds, and the numbers of a source's arrays.
 
-ghost use Rattle.std.specs.Prelude.{◌≡◌, ◌++◌, IfOk, decimal};
+ghost use Rattle.std.specs.Prelude.{◌≡◌, ◌++◌, IfOk, decimal, map};
+ghost use Rattle.c_tree.specs.Trees.{exprs, param};
+ghost use Rattle.instrumentation.specs.Guarded.{arrays_with_extents};
 ghost use Rattle.instrumentation.specs.Names as names;
-ghost use Rattle.unit_builder.specs.Numbered.{numbers};
+ghost use Rattle.unit_builder.specs.Numbered.{numbers, sizes};
+ghost use Rattle.unit_builder.specs.Parts.{declared_extents};
 
-use c_tree::{Name, OutOfMemory, Param};
+use c_tree::{Expr, Name, OutOfMemory, Param};
 use sqlite_items::Items;
 use std::alloc::Global;
 
@@ -99,6 +102,38 @@ pub fn counter_word(alloc: Global) -> Result<Name, OutOfMemory>
     named(alloc, "bal_c1")
 }
 
+/// By tables, how many writes of an array were made so far.
+#[tactic(auto, unfolding(instrumentation::specs::Names::written))]
+pub fn written_word(alloc: Global, array: u64) -> Result<Name, OutOfMemory>
+    ensures { IfOk result (λ name. name.bytes ≡ names.written array) }
+{
+    numbered(alloc, "bal_cw", array)
+}
+
+/// In a walk, the index cell of a subscript.
+#[tactic(auto, unfolding(instrumentation::specs::Names::index_word))]
+pub fn index_word(alloc: Global, dimension: u64) -> Result<Name, OutOfMemory>
+    ensures { IfOk result (λ name. name.bytes ≡ names.index_word dimension) }
+{
+    numbered(alloc, "bal_cx", dimension)
+}
+
+/// The table of the current definitions of an array's cells.
+#[tactic(auto, unfolding(instrumentation::specs::Names::current))]
+pub fn current_table(alloc: Global, array: u64) -> Result<Name, OutOfMemory>
+    ensures { IfOk result (λ name. name.bytes ≡ names.current array) }
+{
+    numbered(alloc, "bal_td", array)
+}
+
+/// The table of the counts of an array's definitions.
+#[tactic(auto, unfolding(instrumentation::specs::Names::counts))]
+pub fn count_table(alloc: Global, array: u64) -> Result<Name, OutOfMemory>
+    ensures { IfOk result (λ name. name.bytes ≡ names.counts array) }
+{
+    numbered(alloc, "bal_tu", array)
+}
+
 /// The name of the instrumented function.
 #[tactic(auto, unfolding(instrumentation::specs::Names::function_name))]
 pub fn function_name(alloc: Global, source: &Name) -> Result<Name, OutOfMemory>
@@ -123,4 +158,40 @@ pub fn number_of(params: &[Param], name: &Name) -> u64
         }
     }
     number
+}
+
+/// The extents of the array of this name, none where no array has it.
+pub fn extents_of<'a>(params: &'a [Param], name: &Name) -> &'a [Expr]
+    ensures { exprs result.now ≡ sizes params.now name.now.bytes }
+{
+    for p in params {
+        if let Param::Array {
+            name: array,
+            extents,
+            ..
+        } = p
+        {
+            if array.same(name) {
+                return extents.as_slice();
+            }
+        }
+    }
+    &[]
+}
+
+/// The extents of the array of this number, none where there is no such array.
+pub fn extents_at(params: &[Param], array: usize) -> &[Expr]
+    ensures { exprs result.now
+        ≡ declared_extents (arrays_with_extents (map param params.now)) array }
+{
+    let mut left = array;
+    for p in params {
+        if let Param::Array { extents, .. } = p {
+            if left == 0 {
+                return extents.as_slice();
+            }
+            left -= 1;
+        }
+    }
+    &[]
 }

@@ -114,6 +114,27 @@ impl Pass<'_> {
         Ok(())
     }
 
+    /// The reads of the index cells among a cell's subscripts.
+    fn index_reads(
+        &self,
+        alloc: Global,
+        loops: &Loops<'_>,
+        at: &Exprs,
+        out: &mut Stmts,
+    ) -> Result<(), OutOfMemory>
+        requires { length (names_of loops.now) < 2 ^ 64 }
+        ensures { OnOk result (Adds out.old out.new
+            (passes.count_indices (numbers self.now.params.now) (target_of self.now)
+            (names_of loops.now) (exprs at.now))) }
+    {
+        for e in at.as_slice() {
+            if let Expr::Cell(name, inner) = e {
+                self.read(alloc, loops, name, inner, out)?;
+            }
+        }
+        Ok(())
+    }
+
     /// The reads of an expression, from left to right.
     fn reads(
         &self,
@@ -128,7 +149,10 @@ impl Pass<'_> {
             (names_of loops.now) (expr e.now))) }
     {
         match e {
-            Expr::Cell(name, at) => self.read(alloc, loops, name, at, out),
+            Expr::Cell(name, at) => {
+                self.index_reads(alloc, loops, at, out)?;
+                self.read(alloc, loops, name, at, out)
+            }
             Expr::Un(_, a) | Expr::Cast(a) => self.reads(alloc, loops, a, out),
             Expr::Bin(_, a, b) | Expr::Test(_, a, b) | Expr::Min(a, b) | Expr::Max(a, b) => {
                 self.reads(alloc, loops, a, out)?;

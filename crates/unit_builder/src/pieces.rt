@@ -1,25 +1,30 @@
 //! Pieces: the statements that set the count of a definition before it is added to its total, one
 //! for each assignment of the source and one for the initial cells of each array.
 
-ghost use Rattle.std.specs.Prelude.{◌≡◌, ◌+◌, ◌++◌, ◌<◌, ◌^◌, IfOk, OnOk, map};
+ghost use Rattle.std.specs.Prelude.{◌≡◌, ◌+◌, ◌++◌, ◌<◌, ◌^◌, if◌then◌else◌, IfOk, OnOk, map};
 ghost use Rattle.c_tree.specs.Trees.{expr, exprs, param, stmt, stmts};
 ghost use Rattle.c_tree.specs.Instances.{sites, sites_all};
 ghost use Rattle.instrumentation.specs.Guarded.{arrays_with_extents};
 ghost use Rattle.instrumentation.specs.Passes as passes;
 ghost use Rattle.instrumentation.specs.Passes.{coordinates_from};
-ghost use Rattle.unit_builder.specs.Numbered.{numbers, passes_of};
-ghost use Rattle.unit_builder.specs.Parts.{array_piece};
+ghost use Rattle.instrumentation.specs.Inspects.{inspects_all};
+ghost use Rattle.instrumentation.specs.Pieces as pieces_of;
+ghost use Rattle.instrumentation.specs.Tables as tables;
+ghost use Rattle.unit_builder.specs.Numbered.{initial_of, numbers, passes_of, sizes};
+ghost use Rattle.unit_builder.specs.Parts.{array_piece, pass_at};
 ghost use Rattle.unit_builder.specs.Small.{IsSmall};
 
 use crate::counts::{count_sites, count_sites_of_all};
-use crate::names::{coordinate, number_of};
+use crate::inspected::is_inspected;
+use crate::names::{coordinate, extents_of, number_of};
 use crate::passes::Pass;
+use crate::tables::{at_write, initial};
 use crate::targets::target_among;
 use c_tree::{Expr, Exprs, OutOfMemory, Param, Stmt, Stmts};
 use sqlite_items::Items;
 use std::alloc::Global;
 
-/// The piece of the assignment of this number: none where it stores into no array.
+/// The pass of the assignment of this number: none where it stores into no array.
 fn write_piece(
     alloc: Global,
     params: &[Param],
@@ -56,8 +61,8 @@ pub fn coordinates(alloc: Global, extents: &[Expr]) -> Result<Exprs, OutOfMemory
     Ok(cell)
 }
 
-/// The piece of the initial cells of an array, by the coordinates of the prologue.
-pub fn cell_piece(
+/// The pass of the initial cells of an array, by the coordinates of the prologue.
+fn cell_piece(
     alloc: Global,
     params: &[Param],
     whole: &Stmts,
@@ -78,8 +83,75 @@ pub fn cell_piece(
     pass.text(alloc, whole)
 }
 
+/// The piece of the initial cells of an array: from its tables where it is inspected, and else by
+/// a pass.
+#[tactic(auto, unfolding(crate::specs::Numbered::initial_of))]
+pub fn initial_piece(
+    alloc: Global,
+    params: &[Param],
+    whole: &Stmts,
+    array: u64,
+    extents: &[Expr],
+) -> Result<Stmts, OutOfMemory>
+    requires { IsSmall (stmts whole.now) }
+    ensures { IfOk result (λ made. map stmt made
+        ≡ initial_of params.now whole.now array (exprs extents.now)) }
+{
+    if is_inspected(params, array, whole) {
+        initial(alloc, array, extents)
+    } else {
+        cell_piece(alloc, params, whole, array, extents)
+    }
+}
+
+/// The piece of an assignment to a cell of an array: from its tables where it is inspected, and
+/// else by a pass.
+fn store_piece(
+    alloc: Global,
+    params: &[Param],
+    whole: &Stmts,
+    number: usize,
+    array: u64,
+    extents: &[Expr],
+    target: &Expr,
+) -> Result<Stmts, OutOfMemory>
+    requires { IsSmall (stmts whole.now) }
+    ensures { IfOk result (λ made. map stmt made
+        ≡ if inspects_all (numbers params.now) array (stmts whole.now)
+        then tables.at_write array (exprs extents.now)
+        else passes.write_piece (numbers params.now) (stmts whole.now) number (expr target.now)) }
+{
+    if is_inspected(params, array, whole) {
+        at_write(alloc, array, extents)
+    } else {
+        write_piece(alloc, params, whole, number, target)
+    }
+}
+
+/// The piece of the assignment of this number: none where it stores into no array.
+fn site_piece(
+    alloc: Global,
+    params: &[Param],
+    whole: &Stmts,
+    number: usize,
+    target: &Expr,
+) -> Result<Stmts, OutOfMemory>
+    requires { IsSmall (stmts whole.now) }
+    ensures { IfOk result (λ made. map stmt made ≡ pieces_of.site_piece (numbers params.now)
+        (sizes params.now) (stmts whole.now) number (expr target.now)) }
+{
+    match target {
+        Expr::Cell(name, _) => {
+            let array = number_of(params, name);
+            let extents = extents_of(params, name);
+            store_piece(alloc, params, whole, number, array, extents, target)
+        }
+        _ => Ok(Items::new(alloc)),
+    }
+}
+
 /// Adds the pieces of a statement's assignments, which have the numbers from `first` on.
-#[cycle(write_pieces)]
+#[cycle(site_pieces)]
 fn add_pieces(
     alloc: Global,
     params: &[Param],
@@ -91,7 +163,7 @@ fn add_pieces(
     requires small { IsSmall (stmts whole.now) }
     requires numbered { first + sites (stmt s.now) < 2 ^ 64 }
     ensures { OnOk result (map (map stmt) pieces.new ≡ map (map stmt) pieces.old
-        ++ passes.write_pieces (numbers params.now) (stmts whole.now) first (stmt s.now)) }
+        ++ pieces_of.site_pieces (numbers params.now) (sizes params.now) (stmts whole.now) first (stmt s.now)) }
 {
     match s {
         Stmt::For { body, .. } => add_all_pieces(alloc, params, whole, first, body, pieces),
@@ -101,7 +173,7 @@ fn add_pieces(
             add_all_pieces(alloc, params, whole, second, other, pieces)
         }
         Stmt::Assign { target, .. } => {
-            pieces.push(write_piece(alloc, params, whole, first, target)?)?;
+            pieces.push(site_piece(alloc, params, whole, first, target)?)?;
             Ok(())
         }
         Stmt::Table { .. } | Stmt::Begin | Stmt::Check { .. } | Stmt::Verdict => Ok(()),
@@ -109,7 +181,7 @@ fn add_pieces(
 }
 
 /// Adds the pieces of a list's assignments, which have the numbers from `first` on.
-#[cycle(write_pieces)]
+#[cycle(site_pieces)]
 fn add_all_pieces(
     alloc: Global,
     params: &[Param],
@@ -121,7 +193,7 @@ fn add_all_pieces(
     requires small { IsSmall (stmts whole.now) }
     requires numbered { first + sites_all (stmts body.now) < 2 ^ 64 }
     ensures { OnOk result (map (map stmt) pieces.new ≡ map (map stmt) pieces.old
-        ++ passes.write_pieces_all (numbers params.now) (stmts whole.now) first (stmts body.now)) }
+        ++ pieces_of.site_pieces_all (numbers params.now) (sizes params.now) (stmts whole.now) first (stmts body.now)) }
 {
     let mut next = first;
     for s in body.as_slice() {
@@ -133,14 +205,14 @@ fn add_all_pieces(
 
 /// The pieces of all assignments of a source, in text order.
 #[tactic(auto, unfolding(crate::specs::Small::IsSmall))]
-pub fn write_pieces(
+pub fn site_pieces(
     alloc: Global,
     params: &[Param],
     whole: &Stmts,
 ) -> Result<Items<Stmts>, OutOfMemory>
     requires { IsSmall (stmts whole.now) }
     ensures { IfOk result (λ made. map (map stmt) made
-        ≡ passes.write_pieces_all (numbers params.now) (stmts whole.now) 0 (stmts whole.now)) }
+        ≡ pieces_of.site_pieces_all (numbers params.now) (sizes params.now) (stmts whole.now) 0 (stmts whole.now)) }
 {
     let mut pieces = Items::new(alloc);
     add_all_pieces(alloc, params, whole, 0, whole, &mut pieces)?;
@@ -187,7 +259,7 @@ fn numbered_pass(
 }
 
 /// The pass of the assignment of this number, none where it stores into no array.
-#[tactic(auto, using(crate::proofs::PieceTargets::no_target, crate::proofs::PieceTargets::some_target), unfolding(crate::specs::Small::IsSmall))]
+#[tactic(auto, unfolding(crate::specs::Small::IsSmall))]
 pub fn write_pass(
     alloc: Global,
     params: &[Param],
@@ -195,9 +267,8 @@ pub fn write_pass(
     number: usize,
 ) -> Result<Stmts, OutOfMemory>
     requires { IsSmall (stmts whole.now) }
-    ensures { IfOk result (λ made. map stmt made ≡ passes.piece_at
-        (passes.write_pieces_all (numbers params.now) (stmts whole.now) 0 (stmts whole.now))
-        number) }
+    ensures { IfOk result (λ made. map stmt made
+        ≡ pass_at (numbers params.now) (stmts whole.now) number) }
 {
     match target_among(whole, number) {
         Some(target) => write_piece(alloc, params, whole, number, target),

@@ -6,12 +6,12 @@ ghost use Rattle.c_tree.specs.Trees.{exprs, param, stmt, stmts};
 ghost use Rattle.instrumentation.specs.Guarded.{arrays_with_extents};
 ghost use Rattle.instrumentation.specs.Prologue.{cell_loops, add_cell, cell_text, array_text, prologue_text};
 ghost use Rattle.unit_builder.specs.Built.{Adds, initial_pieces};
-ghost use Rattle.unit_builder.specs.Numbered.{passes_of};
+ghost use Rattle.unit_builder.specs.Numbered.{initial_of};
 ghost use Rattle.unit_builder.specs.Small.{IsSmall};
 
 use crate::body::{add_piece, read_cell};
 use crate::names::{coordinate, definition_total, register, use_count};
-use crate::pieces::{cell_piece, coordinates};
+use crate::pieces::{coordinates, initial_piece};
 use crate::statements::{assign, only, repeat};
 use c_tree::{BinOp, Expr, Name, OutOfMemory, Param, Rel, Stmt, Stmts};
 use sqlite_items::Items;
@@ -76,8 +76,7 @@ fn for_array(
     over_cells(alloc, extents, cell)
 }
 
-/// Adds the statements for all cells of an array, with a pass for each.
-#[tactic(auto, unfolding(crate::specs::Numbered::passes_of))]
+/// Adds the statements for all cells of an array, with the piece of each.
 fn add_array(
     alloc: Global,
     params: &[Param],
@@ -89,9 +88,9 @@ fn add_array(
 ) -> Result<(), OutOfMemory>
     requires { IsSmall (stmts whole.now) }
     ensures { OnOk result (Adds text.old text.new (array_text array name.now.bytes (exprs extents.now)
-        (passes_of params.now whole.now array (exprs extents.now)))) }
+        (initial_of params.now whole.now array (exprs extents.now)))) }
 {
-    let piece = cell_piece(alloc, params, whole, array, extents)?;
+    let piece = initial_piece(alloc, params, whole, array, extents)?;
     text.append(for_array(alloc, array, name, extents, piece)?)?;
     Ok(())
 }
@@ -105,7 +104,7 @@ pub fn add_prologue(
 ) -> Result<(), OutOfMemory>
     requires { IsSmall (stmts whole.now) }
     ensures { OnOk result (Adds text.old text.new
-        (prologue_text (passes_of params.now whole.now) 0
+        (prologue_text (initial_of params.now whole.now) 0
         (arrays_with_extents (map param params.now)))) }
 {
     let mut array = 0;

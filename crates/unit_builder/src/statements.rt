@@ -1,7 +1,7 @@
 //! Single statements.
 
 ghost use Rattle.std.specs.Prelude.{◌≡◌, ◌∷◌, [], IfOk, map};
-ghost use Rattle.c_tree.specs.Plain.{assign as assigns, loop as loops, var as variable};
+ghost use Rattle.c_tree.specs.Plain.{assign as assigns, check as checks, loop as loops, var as variable};
 ghost use Rattle.c_tree.specs.Trees.{expr, stmt, stmts};
 ghost use Rattle.instrumentation.specs.Passes as passes;
 
@@ -38,6 +38,29 @@ pub fn repeat(var: Name, lo: Expr, rel: Rel, hi: Expr, body: Stmts) -> Stmt
         hi,
         body,
     }
+}
+
+/// The number of an array, as checks have it.
+pub fn checked_array(array: u64) -> Result<u32, OutOfMemory>
+    ensures { IfOk result (λ made. made ≡ array) }
+{
+    if array < 4294967296 {
+        Ok(array as u32)
+    } else {
+        Err(OutOfMemory)
+    }
+}
+
+/// The check that a word is below an extent of an array.
+pub fn check(alloc: Global, value: Name, extent: &Expr, array: u32) -> Result<Stmt, OutOfMemory>
+    ensures { IfOk result (λ made. stmt made ≡ checks value.bytes (expr extent.now) array) }
+{
+    let extent = extent.copy(alloc)?;
+    Ok(Stmt::Check {
+        value,
+        extent,
+        array,
+    })
 }
 
 /// A list of one statement.

@@ -231,7 +231,7 @@ fn prints_the_instrumented_text(rt: HostRuntime) -> Result<(), Fail> {
 fn ends_by_the_table(rt: HostRuntime) -> Result<(), Fail> {
     let other = Source {
         name: "shift.c",
-        text: GATHER,
+        text: SCATTER,
         length: 0,
     };
     let load = Failing { load: 1, ..NONE };
@@ -245,7 +245,7 @@ fn ends_by_the_table(rt: HostRuntime) -> Result<(), Fail> {
             Status::SourceRefused,
             1,
             "",
-            "balance: shift.c: S0 Unbuilt\n",
+            "balance: shift.c: S17 IrregularWrite in item 2\n",
         ),
         (
             SHIFT_FILE,
@@ -341,7 +341,7 @@ fn ends_by_the_table(rt: HostRuntime) -> Result<(), Fail> {
             Status::SourceRefused,
             1,
             "",
-            "balance: shift.c: S0 Unbuilt\n",
+            "balance: shift.c: S17 IrregularWrite in item 2\n",
         ),
         (
             BIG,
@@ -400,7 +400,11 @@ A[i + 1] = A[i]",
     ),
     (PRINTED, "print p.c", "balance: p.c: S3 Syntax at byte 0\n"),
     (PRINTED, "try p.c d1", "balance: p.c: S3 Syntax at byte 0\n"),
-    (GATHER, "run p.c d1", "balance: p.c: S0 Unbuilt\n"),
+    (
+        SCATTER,
+        "run p.c d1",
+        "balance: p.c: S17 IrregularWrite in item 2\n",
+    ),
 ];
 
 #[test]
@@ -440,10 +444,15 @@ fn data_file(text: &'static str) -> Source {
 
 const SHIFT_DATA: &str = "n = 4\nA = 5 0 0 0\n";
 
+const GATHER_DATA: &str = "n = 2\nm = 2\nP = 1 1\nX = 10 20\nY = 0 0\n";
+
+// An index out of range.
+const FAR_DATA: &str = "n = 2\nm = 2\nP = 1 5\nX = 10 20\nY = 0 0\n";
+
 const BALANCED: &str = "A = 5 6 7 8\nbalanced\n";
 
 // The source in the file k.c, the words, the data, the status and the output.
-const RUNS: [(&str, &str, &str, Status, &str); 9] = [
+const RUNS: [(&str, &str, &str, Status, &str); 13] = [
     (SHIFT, "try k.c d1", SHIFT_DATA, Status::Done, BALANCED),
     (
         SHIFT,
@@ -500,6 +509,34 @@ const RUNS: [(&str, &str, &str, Status, &str); 9] = [
         MIX_DATA,
         Status::Done,
         "A = 2 0 3 0\nC = 2 2\nbalanced\n",
+    ),
+    (
+        GATHER,
+        "try k.c d1",
+        GATHER_DATA,
+        Status::Done,
+        "Y = 20 20\nbalanced\n",
+    ),
+    (
+        GATHER,
+        "try k.c d1",
+        "n = 3\nm = 2\nP = 0 1 0\nX = 7 9\nY = 0 0 0\n",
+        Status::Done,
+        "Y = 7 9 7\nbalanced\n",
+    ),
+    (
+        GATHER,
+        "try k.c d1",
+        FAR_DATA,
+        Status::Reported,
+        "Y = 0 0\nindex X\n",
+    ),
+    (
+        GATHER,
+        "run k.c d1",
+        FAR_DATA,
+        Status::Outside,
+        "Y = 20 0\noutside X\n",
     ),
 ];
 
@@ -561,6 +598,8 @@ fn runs_what_it_prints(rt: HostRuntime) -> Result<(), Fail> {
             Status::Done,
             "A = 2 0 3 0\nC = 2 2\nbalanced\n",
         ),
+        (GATHER, GATHER_DATA, Status::Done, "Y = 20 20\nbalanced\n"),
+        (GATHER, FAR_DATA, Status::Reported, "Y = 0 0\nindex X\n"),
     ] {
         let left = run_of_printed(rt.alloc(), text, &[data_file(values)], "run k.out.c d1")?;
         assert_eq!(rt; left.status, status, "{values}");
@@ -571,7 +610,7 @@ fn runs_what_it_prints(rt: HostRuntime) -> Result<(), Fail> {
 }
 
 // The source in the file k.c, its data, the flip, and the status and the output of `try`.
-const FLIPS: [(&str, &str, &str, Status, &str); 8] = [
+const FLIPS: [(&str, &str, &str, Status, &str); 10] = [
     (
         SHIFT,
         SHIFT_DATA,
@@ -627,6 +666,20 @@ const FLIPS: [(&str, &str, &str, Status, &str); 8] = [
         "flip A 0 0 at 0\n",
         Status::Outside,
         "A = 4 5 6 7\noutside A\n",
+    ),
+    (
+        GATHER,
+        "n = 2\nm = 2\nP = 1 1\nX = 20 20\nY = 0 0\n",
+        "flip P 0 0 at 0\n",
+        Status::Reported,
+        "Y = 20 20\nfault P\n",
+    ),
+    (
+        GATHER,
+        GATHER_DATA,
+        "flip P 0 1 at 0\n",
+        Status::Reported,
+        "Y = 0 0\nindex X\n",
     ),
 ];
 
@@ -753,7 +806,6 @@ fn refuses_changed_texts(rt: HostRuntime) -> Result<(), Fail> {
             "bal_other +=",
             "balance: p.c: S5 NameUnknown in item 14\n",
         ),
-        ("A[bal_i0];", "A[bal_w];", "balance: p.c: S0 Unbuilt\n"),
     ] {
         let left = told_of_changed(rt.alloc(), from, to)?;
         assert_eq!(rt; left.status, Status::SourceRefused, "{from}");

@@ -1,9 +1,12 @@
-use Rattle.pass_laws.proofs.Pieces.{passes_go_on, passes_turn, writes_are_places, cells_are_places, units_go_on}
+use Rattle.pass_laws.proofs.Pieces.{passes_go_on, sites_go_on, passes_turn, writes_are_places, cells_are_places}
 use Rattle.pass_laws.proofs.SourceTurns.{sources_turn, units_turn}
 use Rattle.pass_laws.proofs.passes_go_on.Goals as goal
 
 pub returns-clause-go_on : goal.returns-clause-go_on
 returns-clause-go_on c = passes_go_on
+
+pub returns-clause-sites : goal.returns-clause-sites
+returns-clause-sites c = sites_go_on
 
 pub returns-clause-turn : goal.returns-clause-turn
 returns-clause-turn c = passes_turn
@@ -18,7 +21,4 @@ pub returns-clause-source_turns : goal.returns-clause-source_turns
 returns-clause-source_turns c = sources_turn
 
 pub returns-clause-unit_turns : goal.returns-clause-unit_turns
-returns-clause-unit_turns c = units_turn c.sources_follow_their_memory.ensures.bodies
-
-pub returns-clause-units : goal.returns-clause-units
-returns-clause-units c = units_go_on c.regular_units_are_counted.ensures.go_on c.regular_units_are_counted.ensures.guarded
+returns-clause-unit_turns c = units_turn

@@ -6,4 +6,4 @@ pub returns-clause-accepted : goal.returns-clause-accepted
 returns-clause-accepted c = mix_accepted
 
 pub returns-clause-guarded : goal.returns-clause-guarded
-returns-clause-guarded c = (c.accepted_sources_are_guarded.ensures mix mix_accepted).guards
+returns-clause-guarded c = (c.accepted_sources_are_guarded.ensures mix mix_accepted.accepted).guards

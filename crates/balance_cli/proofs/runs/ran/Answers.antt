@@ -5,15 +5,14 @@ use Rattle.c_tree.specs.Plain.{PlainUnit}
 use Rattle.c_tree.specs.Run as runs
 use Rattle.c_tree.specs.declared.frame.Frame.{Frame}
 use Rattle.data_file.specs.Conditions.{IsEndOf}
-use Rattle.fault_plan.specs.Units.{fault_in}
+use Rattle.c_tree.specs.Flips.{fault_in, IsFaultFor}
 use Rattle.interp.specs.Finished.{inputs_in, IsEnded}
-use Rattle.interp.specs.Flips.{IsFaultFor}
 use Rattle.balance_cli.specs.Stages.{frame_of, unit_of}
-use Rattle.balance_cli.proofs.Shown.{built_runs, ends_of}
+use Rattle.balance_cli.proofs.Shown.{ends_of, taken_runs}
 use Rattle.balance_cli.proofs.runs.ran.Goals as goal
 
 pub end_of-requires-clause-form : goal.end_of-requires-clause-form
-end_of-requires-clause-form c = subst IsRunnable (sym c.unit.ensures) (built_runs c.built_make_no_table.ensures (unit_of c.args.taken.now) c.requires.framed.built)
+end_of-requires-clause-form c = subst IsRunnable (sym c.unit.ensures) (taken_runs (unit_of c.args.taken.now) c.requires.framed.accepted)
 
 pub end_of-requires-clause-flip_fits : goal.end_of-requires-clause-flip_fits
 end_of-requires-clause-flip_fits c =
@@ -28,4 +27,4 @@ shown-requires c =
     let P : PlainUnit → Type 0 = λ v. IsEnded (runs.run v i fault) e in
     let Q : Frame → Type 0 = λ f. IsEndOf f e in
     subst Q (sym c.frame.ensures)
-    (ends_of (frame_of c.args.taken.now) u i fault e (built_runs c.built_make_no_table.ensures u c.requires.framed.built) c.requires.framed.of (subst P c.unit.ensures c.in_ok-ended.ensures))
+    (ends_of (frame_of c.args.taken.now) u i fault e (taken_runs u c.requires.framed.accepted) c.requires.framed.of (subst P c.unit.ensures c.in_ok-ended.ensures))

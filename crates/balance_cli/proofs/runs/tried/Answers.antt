@@ -3,7 +3,7 @@ use Rattle.c_tree.specs.Trees.{unit}
 use Rattle.c_tree.specs.declared.frame.Frame.{Frame}
 use Rattle.data_file.specs.Conditions.{IsEndOf}
 use Rattle.data_file.specs.Texts.{output_text}
-use Rattle.fault_plan.specs.Units.{fault_in}
+use Rattle.c_tree.specs.Flips.{fault_in}
 use Rattle.interp.specs.Finished.{inputs_in}
 use Rattle.balance_cli.specs.Runs.{finish_of}
 use Rattle.balance_cli.proofs.HeadsMade.{made_head, spelled_by}
@@ -28,7 +28,7 @@ returns c =
     weaker _ c.shown.result (λ output is. record {
       unit = unit c.in_ok-guarded.guarded;
       made = c.in_ok-guarded.ensures.made;
-      is_text = spelled_by _ _ _ c.instrumented_units_have_texts.ensures.accepted c.requires.framed.built c.in_ok-guarded.ensures.made refl;
+      is_text = spelled_by _ _ _ c.instrumented_units_have_texts.ensures.accepted c.requires.framed.accepted c.in_ok-guarded.ensures.made refl;
       head = made_head _ _ c.in_ok-guarded.ensures.made;
       accepted = c.in_ok-guarded.ensures.accepted;
       stores = c.in_ok-guarded.ensures.stores;

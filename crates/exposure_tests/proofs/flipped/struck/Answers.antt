@@ -3,7 +3,7 @@ use Rattle.c_tree.specs.Plain.{PlainUnit}
 use Rattle.c_tree.specs.Trees.{unit as tree}
 use Rattle.instrumentation.specs.Guarded.{guarded}
 use Rattle.interp.specs.Finished.{inputs_in}
-use Rattle.interp.specs.Flips.{fault_in, IsFaultFor}
+use Rattle.c_tree.specs.Flips.{fault_in, IsFaultFor}
 use Rattle.exposure_tests.proofs.flipped.struck.Goals as goal
 
 pub run-requires-clause-flip_fits : goal.run-requires-clause-flip_fits

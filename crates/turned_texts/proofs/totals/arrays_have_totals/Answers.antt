@@ -1,4 +1,4 @@
-use Rattle.std.proofs.Common.{◌≡◌, ℕ, List, [], ◌∷◌, ap, arith}
+use Rattle.std.proofs.Common.{◌≡◌, ℕ, List, [], ◌∷◌, ap, arith, refl}
 use Rattle.std.specs.Int.{int_wrap}
 use Rattle.std.specs.Fmt.{digits}
 use Rattle.c_tree.specs.Fault.{disturbed}
@@ -17,7 +17,7 @@ first_definition (pair ∷ more) = pair.0
 
 pub returns-clause-names : goal.returns-clause-names
 unfolding int_wrap digits disturbed register result count definition_total use_total coordinate pass_variable active counter function_name
-returns-clause-names c = λ names. let e : fault (0 ∷ []) ≡ fault (1 ∷ []) = (names five in_fill fill_sound fill_fits).0 fill_is_read in cc
+returns-clause-names c = λ names. let e : fault (0 ∷ []) ≡ fault (1 ∷ []) = names five in_fill fill_sound fill_fits refl fill_is_read in cc
 
 pub returns-clause-totals : goal.returns-clause-totals
 unfolding int_wrap digits latest sum_below uses sum_cells definition_sum use_sum register result count definition_total use_total coordinate pass_variable active counter function_name

@@ -3,7 +3,7 @@ use Rattle.c_tree.specs.Trees.{stmt, stmts}
 use Rattle.c_tree.specs.Instances.{sites_all}
 use Rattle.instrumentation.specs.Body.{instrument_all, registers_all}
 use Rattle.unit_builder.specs.Built.{pieces_in}
-use Rattle.unit_builder.specs.Numbered.{numbers}
+use Rattle.unit_builder.specs.Numbered.{numbers, sizes}
 use Rattle.unit_builder.specs.Weight.{weight, weight_all}
 use Rattle.unit_builder.proofs.body.+instrument.Given as goal
 
@@ -18,5 +18,5 @@ invariant-instrumented-loop-s l = record {
   given : l.next + sites_all (stmts (drop l.s-index l.s-items)) ≤ length l.pieces;
   few : registers_all (stmts (drop l.s-index l.s-items)) ≤ registers_all (stmts l.s-items);
   smaller : weight_all (stmts (drop l.s-index l.s-items)) ≤ weight_all (stmts l.s-items);
-  rest : map stmt l.out ++ instrument_all (numbers l.params) (pieces_in l.pieces) l.next (stmts (drop l.s-index l.s-items)) ≡ instrument_all (numbers l.params) (pieces_in l.pieces) l.fn.first (stmts l.s-items);
+  rest : map stmt l.out ++ instrument_all (numbers l.params) (sizes l.params) (pieces_in l.pieces) l.next (stmts (drop l.s-index l.s-items)) ≡ instrument_all (numbers l.params) (sizes l.params) (pieces_in l.pieces) l.fn.first (stmts l.s-items);
 }

@@ -1,0 +1,10 @@
+pub mod AllTables
+pub mod CountedUnits
+pub mod CountingPieces
+pub mod Inspected
+pub mod Inspections
+pub mod Left
+pub mod Laws
+pub mod Misses
+pub mod UnitTurns
+pub mod Walked

@@ -1,0 +1,2 @@
+pub mod RegularReads
+pub mod Subscripts
