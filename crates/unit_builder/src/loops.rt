@@ -7,7 +7,7 @@ ghost use Rattle.instrumentation.specs.Passes.{renamed_name, renamed, renamed_al
 ghost use Rattle.unit_builder.specs.Around.{names_of};
 
 use crate::names::pass_variable;
-use c_tree::{Expr, Exprs, Name, OutOfMemory, Rel, Tests};
+use c_tree::{Expr, Name, OutOfMemory, Rel, Tests};
 use sqlite_items::Items;
 use std::alloc::Global;
 
