@@ -15,15 +15,15 @@ mod row;
 mod slots;
 mod write;
 
-ghost use Rattle.std.specs.Prelude.{◌≡◌, IfOk};
-ghost use Rattle.data_file.specs.Texts.{data_text, output_text};
+ghost use Rattle.std.specs.Prelude.{◌≡◌, ◌++◌, IfOk, codes, length};
+ghost use Rattle.data_file.specs.Texts.{data_text, output_text, verdict_words};
 ghost use Rattle.data_file.specs.Answers.{Answers};
 ghost use Rattle.data_file.specs.Samples.{AreSamples};
 ghost use Rattle.data_file.specs.Frames.{FitsAsFrame, FitsAsMeant};
 ghost use Rattle.data_file.specs.Laws.{HasOneAnswer, HasSomeAnswer, IsReadBack};
-ghost use Rattle.data_file.specs.Conditions.{HasRows, IsEndOf, IsFrame};
+ghost use Rattle.data_file.specs.Conditions.{HasRows, IsEndOf, IsFrame, NamesBelow};
 
-use c_tree::{Ended, Frame, Inputs, OutOfMemory};
+use c_tree::{ArrayInfo, Ended, Frame, Inputs, OutOfMemory, Verdict};
 pub use refusal::DataRefusal;
 use std::alloc::Global;
 
@@ -73,6 +73,21 @@ pub fn output(alloc: Global, f: &Frame, e: &Ended) -> Result<Vec<u8>, OutOfMemor
     let mut out = Vec::new(alloc);
     ending::put_kept(&mut out, f.arrays.as_slice(), e.arrays.as_slice())?;
     ending::put_verdict(&mut out, f.arrays.as_slice(), &e.verdict)?;
+    put::put(&mut out, b"\n")?;
+    Ok(out)
+}
+
+/// The line of a verdict, with the names of these arrays in declared order.
+pub fn verdict_line(
+    alloc: Global,
+    arrays: &[ArrayInfo],
+    verdict: &Verdict,
+) -> Result<Vec<u8>, OutOfMemory>
+    requires { NamesBelow (length arrays.now) verdict.now }
+    ensures { IfOk result (λ text. text.items ≡ verdict_words arrays.now verdict.now ++ codes "\n") }
+{
+    let mut out = Vec::new(alloc);
+    ending::put_verdict(&mut out, arrays, verdict)?;
     put::put(&mut out, b"\n")?;
     Ok(out)
 }
