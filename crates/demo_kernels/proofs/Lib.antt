@@ -1,0 +1,10 @@
+pub mod Drawn
+pub mod Facts
+pub mod Flips
+pub mod Frames
+pub mod Lines
+pub mod Sources
+pub mod Stays
+pub mod Trees
+pub mod Usable
+pub mod Walks

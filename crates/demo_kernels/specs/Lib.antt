@@ -1,0 +1,4 @@
+pub mod Demos
+pub mod Generator
+pub mod Kernels
+pub mod Summaries
