@@ -1,6 +1,7 @@
 pub mod Commands
 pub mod DataRefusals
 pub mod FlipRefusals
+pub mod Forms
 pub mod Lines
 pub mod Orders
 pub mod Refusals

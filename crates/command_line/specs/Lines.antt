@@ -1,7 +1,7 @@
 -- The lines on the error stream.
-use Rattle.std.specs.Prelude.{ℕ, List, ◌++◌, Option, Some, None, codes, decimal}
+use Rattle.std.specs.Prelude.{ℕ, List, [], ◌++◌, Option, Some, None, codes, decimal}
 use Rattle.command_line.specs.FlipRefusals.{flip_refusal_text}
-use Rattle.command_line.specs.Orders.{Order, print, run_file, attempt, report}
+use Rattle.command_line.specs.Orders.{Order, print, run_file, attempt, report, demo}
 use Rattle.command_line.specs.Refusals.{refusal_text}
 use Rattle.command_line.specs.declared.outcome.FileWord.{FileWord}
 use Rattle.command_line.specs.declared.outcome.FileWord.TheVariants as word
@@ -35,6 +35,7 @@ name_of (print source) word = source
 name_of (run_file file input flip) word = by_word word file input flip
 name_of (attempt source input flip) word = by_word word source input flip
 name_of (report source) word = source
+name_of (demo number) word = []
 
 abbrev pub limit_of : FileWord → ℕ
 limit_of word.Source = 262144

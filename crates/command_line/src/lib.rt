@@ -3,6 +3,7 @@
 
 mod data_refusals;
 mod flip_refusals;
+mod forms;
 mod lines;
 mod outcome;
 mod refusals;
@@ -14,4 +15,4 @@ pub use flip_refusals::flip_refusal_text;
 pub use lines::{cannot_write, line, no_memory, try_line, usage};
 pub use outcome::{FileWord, Finish, Output, Stop};
 pub use status::{Status, finished, status_of};
-pub use words::{Command, command_of};
+pub use words::{Command, WordsError, command_of};

@@ -59,6 +59,7 @@ fn name_of<'a>(command: Command<'a>, word: FileWord) -> &'a str
 {
     match command {
         Command::Print { source } | Command::Report { source } => source,
+        Command::Demo { .. } => "",
         Command::Run { file, input, flip } => by_word(word, file, input, flip),
         Command::Attempt {
             source,

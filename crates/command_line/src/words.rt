@@ -1,8 +1,19 @@
-//! The words of the command line.
+//! The words of the command line. Single words are tested here; how many there are, and which is which, clap says.
 
-ghost use Rattle.std.specs.Prelude.{◌≡◌, map, option_map, string_bytes};
-ghost use Rattle.command_line.specs.Commands.{given, ordered};
-ghost use Rattle.command_line.specs.Orders.{order_of, text_order, run_order, is_name as is_name_of, is_flip as is_flip_of};
+ghost use Rattle.std.specs.Prelude.{◌≡◌, codes, map, string_bytes, IfOk, MatchResult};
+ghost use Rattle.std.specs.List.{list_all};
+ghost use Rattle.command_line.specs.Commands.{IsInRange, Orders, OrdersNone};
+ghost use Rattle.command_line.specs.Forms.{IsMode};
+ghost use Rattle.command_line.specs.Orders.{is_name as is_name_of, number_of as number_in};
+
+use crate::forms::{Run, name_of, run_of};
+use std::alloc::Global;
+use text_pieces::number;
+use thiserror::Error;
+
+const MOST_DIGITS: usize = 5;
+
+const LAST_NUMBER: u64 = 399;
 
 /// What the words order.
 #[derive(Clone, Copy)]
@@ -23,6 +34,18 @@ pub enum Command<'a> {
     Report {
         source: &'a str,
     },
+    Demo {
+        number: u32,
+    },
+}
+
+/// Why words order nothing.
+#[derive(Clone, Copy, Debug, PartialEq, Eq, Error)]
+pub enum WordsError {
+    #[error("usage")]
+    Usage,
+    #[error("out of memory")]
+    OutOfMemory,
 }
 
 // Not empty, and no option.
@@ -35,66 +58,139 @@ fn is_name(word: &str) -> bool
     }
 }
 
-// No word, or a name.
-fn is_flip(flip: Option<&str>) -> bool
-    ensures { result ≡ is_flip_of (given flip.entry) }
+fn are_names(words: &[String]) -> bool
+    ensures { result ≡ list_all is_name_of (map string_bytes words.now) }
 {
-    match flip {
-        Some(word) => is_name(word),
-        None => true,
-    }
+    words.iter().all(|word| is_name(word.as_str()))
 }
 
-// The command of a mode that takes a source.
-fn of_text<'a>(mode: &str, source: &'a str) -> Option<Command<'a>>
-    ensures { option_map ordered result ≡ text_order mode.now source.entry.now }
+// The number of a demonstration, in one to five digits.
+fn number_of(word: &str) -> Option<u32>
+    ensures { result ≡ number_in word.now }
 {
-    if !is_name(source) {
+    let digits = word.as_bytes();
+    if digits.len() > MOST_DIGITS {
         return None;
     }
-    match mode {
-        "print" => Some(Command::Print { source }),
-        "report" => Some(Command::Report { source }),
+    match number(10, digits) {
+        Some(value) if value <= LAST_NUMBER => Some(value as u32),
         _ => None,
     }
 }
 
-// The command of a mode that takes a text, its data, and maybe a flip.
-fn of_run<'a>(
-    mode: &str,
-    file: &'a str,
-    input: &'a str,
-    flip: Option<&'a str>,
-) -> Option<Command<'a>>
-    ensures { option_map ordered result ≡ run_order mode.now file.entry.now input.entry.now (given flip.entry) }
+fn print_of<'a>(
+    alloc: Global,
+    mode: &'a str,
+    words: &'a [String],
+) -> Result<Command<'a>, WordsError>
+    requires mode { mode.now ≡ codes "print" }
+    requires words { IsMode (map string_bytes words.now) mode.now }
+    ensures { MatchResult result (Orders (map string_bytes words.entry.now)) (OrdersNone (map string_bytes words.entry.now)) }
 {
-    if !(is_name(file) && is_name(input) && is_flip(flip)) {
-        return None;
+    match name_of(alloc, mode, words) {
+        Ok(source) => Ok(Command::Print { source }),
+        Err(why) => Err(why),
     }
-    match mode {
-        "run" => Some(Command::Run { file, input, flip }),
-        "try" => Some(Command::Attempt {
+}
+
+fn report_of<'a>(
+    alloc: Global,
+    mode: &'a str,
+    words: &'a [String],
+) -> Result<Command<'a>, WordsError>
+    requires mode { mode.now ≡ codes "report" }
+    requires words { IsMode (map string_bytes words.now) mode.now }
+    ensures { MatchResult result (Orders (map string_bytes words.entry.now)) (OrdersNone (map string_bytes words.entry.now)) }
+{
+    match name_of(alloc, mode, words) {
+        Ok(source) => Ok(Command::Report { source }),
+        Err(why) => Err(why),
+    }
+}
+
+fn demo_of<'a>(alloc: Global, mode: &'a str, words: &'a [String]) -> Result<Command<'a>, WordsError>
+    requires mode { mode.now ≡ codes "demo" }
+    requires words { IsMode (map string_bytes words.now) mode.now }
+    ensures { MatchResult result (Orders (map string_bytes words.entry.now)) (OrdersNone (map string_bytes words.entry.now)) }
+{
+    match name_of(alloc, mode, words) {
+        Ok(word) => match number_of(word) {
+            Some(number) => Ok(Command::Demo { number }),
+            None => Err(WordsError::Usage),
+        },
+        Err(why) => Err(why),
+    }
+}
+
+fn run_file_of<'a>(
+    alloc: Global,
+    mode: &'a str,
+    words: &'a [String],
+) -> Result<Command<'a>, WordsError>
+    requires mode { mode.now ≡ codes "run" }
+    requires words { IsMode (map string_bytes words.now) mode.now }
+    ensures { MatchResult result (Orders (map string_bytes words.entry.now)) (OrdersNone (map string_bytes words.entry.now)) }
+{
+    match run_of(alloc, mode, words) {
+        Ok(Run { file, input, flip }) => Ok(Command::Run { file, input, flip }),
+        Err(why) => Err(why),
+    }
+}
+
+fn attempt_of<'a>(
+    alloc: Global,
+    mode: &'a str,
+    words: &'a [String],
+) -> Result<Command<'a>, WordsError>
+    requires mode { mode.now ≡ codes "try" }
+    requires words { IsMode (map string_bytes words.now) mode.now }
+    ensures { MatchResult result (Orders (map string_bytes words.entry.now)) (OrdersNone (map string_bytes words.entry.now)) }
+{
+    match run_of(alloc, mode, words) {
+        Ok(Run { file, input, flip }) => Ok(Command::Attempt {
             source: file,
             input,
             flip,
         }),
-        _ => None,
+        Err(why) => Err(why),
+    }
+}
+
+// The command of a mode, on words of which all but the first are names.
+fn by_mode<'a>(alloc: Global, mode: &'a str, words: &'a [String]) -> Result<Command<'a>, WordsError>
+    requires { IsMode (map string_bytes words.now) mode.now }
+    ensures { MatchResult result (Orders (map string_bytes words.entry.now)) (OrdersNone (map string_bytes words.entry.now)) }
+{
+    match mode {
+        "print" => print_of(alloc, mode, words),
+        "run" => run_file_of(alloc, mode, words),
+        "try" => attempt_of(alloc, mode, words),
+        "report" => report_of(alloc, mode, words),
+        "demo" => demo_of(alloc, mode, words),
+        _ => Err(WordsError::Usage),
+    }
+}
+
+// The command of a mode and names.
+fn ordered_by<'a>(alloc: Global, words: &'a [String]) -> Result<Command<'a>, WordsError>
+    ensures { MatchResult result (Orders (map string_bytes words.entry.now)) (OrdersNone (map string_bytes words.entry.now)) }
+{
+    match words {
+        [mode, names @ ..] => {
+            if are_names(names) {
+                by_mode(alloc, mode.as_str(), words)
+            } else {
+                Err(WordsError::Usage)
+            }
+        }
+        [] => Err(WordsError::Usage),
     }
 }
 
 /// The command, where the words are in form.
-pub fn command_of(words: &[String]) -> Option<Command<'_>>
-    ensures { option_map ordered result ≡ order_of (map string_bytes words.now) }
+pub fn command_of<'a>(alloc: Global, words: &'a [String]) -> Result<Command<'a>, WordsError>
+    ensures orders { MatchResult result (Orders (map string_bytes words.entry.now)) (OrdersNone (map string_bytes words.entry.now)) }
+    ensures range { IfOk result IsInRange }
 {
-    match words {
-        [mode, source] => of_text(mode.as_str(), source.as_str()),
-        [mode, file, input] => of_run(mode.as_str(), file.as_str(), input.as_str(), None),
-        [mode, file, input, flip] => of_run(
-            mode.as_str(),
-            file.as_str(),
-            input.as_str(),
-            Some(flip.as_str()),
-        ),
-        _ => None,
-    }
+    ordered_by(alloc, words)
 }

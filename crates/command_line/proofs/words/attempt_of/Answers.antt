@@ -1,0 +1,6 @@
+use Rattle.std.proofs.Common.{map, string_bytes}
+use Rattle.command_line.proofs.Modes.{attempt_none}
+use Rattle.command_line.proofs.words.attempt_of.Goals as goal
+
+pub returns-in-Err : goal.returns-in-Err
+returns-in-Err c = λ is. attempt_none (map string_bytes c.args.words.now) c.args.mode.now c.requires.mode c.requires.words (c.in-Err.ensures is)

@@ -1,0 +1,7 @@
+//! Tests of the words of the command line and of the texts of demonstrations.
+#![tactic(auto)]
+
+#[cfg(test)]
+mod texts;
+#[cfg(test)]
+mod words;
