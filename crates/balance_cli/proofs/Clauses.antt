@@ -2,11 +2,12 @@
 use Rattle.std.proofs.Common.{◌≡◌, ◌⊎◌, ℕ, List, [], Option, Some, None, Result, Ok, Err, inl, inr, sym, ◌∙◌, ap, subst, refl}
 use Rattle.std.proofs.lemmas.Option.{none-some}
 use Rattle.edge.specs.Causes.{Rose}
+use Rattle.edge.specs.Shelf.{Told}
 use Rattle.balance_cli.specs.Calls.{IsWritten, IsTold, IsEnding, IsAnswer, IsCall}
 use Rattle.command_line.specs.Tried.{Tries}
-use Rattle.command_line.specs.Lines.{line_of}
+use Rattle.command_line.specs.Lines.{line_of, memory_line}
 use Rattle.balance_cli.specs.Met.{Met, files_before}
-use Rattle.command_line.specs.Orders.{Order, print, run_file, attempt, report, files_of}
+use Rattle.command_line.specs.Orders.{Order, print, run_file, attempt, report, demo, files_of}
 use Rattle.balance_cli.specs.Plans.{Files, plan_of, Follows, AsksOnly, Ends, Defined}
 use Rattle.command_line.specs.Statuses.{status_of, finish_status, ideal_status}
 use Rattle.balance_cli.specs.Table.{Cause, IsDone, AsksInOrder, IsQuiet, IsFulfilled, IsComplete, IsCalm, EndsAsDefined}
@@ -17,9 +18,20 @@ use Rattle.command_line.specs.declared.outcome.Stop.{Stop}
 use Rattle.command_line.specs.declared.outcome.Stop.TheVariants.{ReadFault, TooLong, SourceRefused, DataRefused, FlipRefused, NoMemory}
 use Rattle.command_line.specs.declared.status.Status.{Status}
 use Rattle.command_line.specs.declared.status.Status.TheVariants as status
-use Rattle.balance_cli.proofs.Plans.{asked_nothing}
+use Rattle.balance_cli.proofs.Plans.{asked_nothing, follows_nothing}
 use Rattle.balance_cli.proofs.Endings.{defined_end, fault_end, asked_end, IsCalmFor, determined, some_ending, passing_end}
 use Rattle.balance_cli.proofs.Sound.{Laws, plan_is_sound}
+
+-- a call that wants memory before its first stage
+pub unread_call : (order : Option Order) (m : Met) (ends : Status) → m.shelf ≡ m.shelf_before → m.out ≡ m.out_before → ends ≡ status.NoMemory → Tries m.err_before m.err memory_line → IsCall order m ends
+unread_call None m ends unread unwritten is line = record { answer = inr (is, record { unread = unread; unwritten = unwritten; line = line }) }
+unread_call (Some order) m ends unread unwritten is line = record {
+  answer = record {
+    outcome = Err NoMemory;
+    follows = subst (λ (t : Told). Follows (plan_of order) m.shelf_before t (Err NoMemory)) (sym unread) (follows_nothing (plan_of order) m.shelf_before);
+    ending = record { unwritten = unwritten; line = inr (is, line) };
+  };
+}
 
 done_so : (order : Order) (m : Met) (f : Finish) → IsDone order f m → Cause (Some order) m (finish_status f)
 done_so order m finish.Done done = done
@@ -125,6 +137,7 @@ plan_asks (run_file file input (Some flip)) = (refl, λ text unit. (refl, λ byt
 plan_asks (attempt source input None) = (refl, λ text unit. (refl, λ bytes inputs. tt))
 plan_asks (attempt source input (Some flip)) = (refl, λ text unit. (refl, λ bytes inputs. (refl, λ words fault. tt)))
 plan_asks (report source) = (refl, λ text unit. tt)
+plan_asks (demo number) = tt
 
 no_order_asks : (m : Met) (ends : Status) → IsAnswer None m ends → m.shelf ≡ m.shelf_before
 no_order_asks m ends (inl misused) = misused.1.unread

@@ -11,7 +11,7 @@ use Rattle.command_line.specs.Statuses.{status_of}
 use Rattle.data_file.specs.Checks.{wanted_cells}
 use Rattle.data_file.specs.Conditions.{IsFrame}
 use Rattle.data_file.specs.Frames.{IsFrameOf, FitsAsFrame, FitsAsMeant, carried}
-use Rattle.fault_plan.specs.Answers.{Answers, IsAnswered}
+use Rattle.fault_plan.specs.Answers.{Answers, IsAnswered, MeansFitting}
 use Rattle.fault_plan.specs.Laws.{HasOneAnswer, HasSomeAnswer}
 use Rattle.fault_plan.specs.Meaning.{MeansFlip, Says, named}
 use Rattle.c_tree.specs.Flips.{fault_in}
@@ -102,13 +102,15 @@ module _ (laws : FlipLaws) (head : PlainUnit) (inputs : PlainInputs) (fit : Fit 
       (one_by one.frame two.frame (Ok one.flip) (Err why) one.of two.of two.is one.means two.refused.answers
       (λ e. not_an_error _ _ e) (λ e. two.refused.cause (same_error why _ _ _ refl refl e)))
 
-  -- it means no other
-  meant_once : (a b : Fault) → MeansFault head inputs text a → MeansFault head inputs text b → a ≡ b
-  meant_once a b one two =
-      one.same
-      ∙ ap fault_in (same_ok one.flip two.flip _ _ refl refl
-      (one_by one.frame two.frame (Ok one.flip) (Ok two.flip) one.of two.of two.is one.means two.means (λ e. not_an_error _ _ e) (λ e. not_an_error _ _ e)))
+  -- it means no other, by whatever frame of the unit
+  pub meant_by : (a : Flip) (b : Fault) (f : Frame) → IsFrameOf head f → MeansFitting f (carried inputs) text a → MeansFault head inputs text b → fault_in a ≡ b
+  meant_by a b f of means two =
+      ap fault_in (same_ok a two.flip _ _ refl refl
+      (one_by f two.frame (Ok a) (Ok two.flip) of two.of two.is means two.means (λ e. not_an_error _ _ e) (λ e. not_an_error _ _ e)))
       ∙ sym two.same
+
+  meant_once : (a b : Fault) → MeansFault head inputs text a → MeansFault head inputs text b → a ≡ b
+  meant_once a b one two = one.same ∙ meant_by one.flip b one.frame one.of one.means two
 
 flip_why : (head : PlainUnit) (inputs : PlainInputs) (text : List ℕ) (f : Frame) → IsFrameOf head f → IsFrame f → IsAnswered f (carried inputs) text → ((fault : Fault) × MeansFault head inputs text fault) ⊎ ((why : Why) × IsFlipWhy head inputs text why)
 flip_why head inputs text f of is (inl (flip, means)) = inl (fault_in flip, record { frame = f; of = of; is = is; flip = flip; means = means; same = refl })

@@ -6,7 +6,7 @@ use Rattle.c_tree.specs.declared.frame.Frame.{Frame}
 use Rattle.c_tree.specs.declared.frame.Inputs.{Inputs}
 use Rattle.command_line.specs.DataRefusals.{data_refusal_text}
 use Rattle.command_line.specs.Statuses.{status_of}
-use Rattle.data_file.specs.Answers.{Answers, IsAnswered}
+use Rattle.data_file.specs.Answers.{Answers, IsAnswered, MeansFitting}
 use Rattle.data_file.specs.Conditions.{IsFrame}
 use Rattle.data_file.specs.Frames.{IsFrameOf, carried}
 use Rattle.data_file.specs.Laws.{HasOneAnswer, HasSomeAnswer}
@@ -46,12 +46,15 @@ read_once laws head text words inputs one two =
     (one_by laws head text one.frame two.frame (Ok (carried inputs)) (Err two.why) one.of two.of two.is one.means two.refused.answers
     (λ e. not_an_error _ _ e) (λ e. two.refused.cause (same_error two.why _ _ _ refl refl e)))
 
--- it means no others
-meant_once : DataLaws → (head : PlainUnit) (text : List ℕ) (i j : PlainInputs) → IsMeant head text i → IsMeant head text j → i ≡ j
-meant_once laws head text i j one two =
+-- it means no others, by whatever frame of the unit
+pub meant_by : DataLaws → (head : PlainUnit) (text : List ℕ) (i j : PlainInputs) (f : Frame) → IsFrameOf head f → MeansFitting f text (carried i) → IsMeant head text j → i ≡ j
+meant_by laws head text i j f of means two =
     ap (λ (c : Inputs). inputs_in c)
     (same_ok (carried i) (carried j) _ _ refl refl
-    (one_by laws head text one.frame two.frame (Ok (carried i)) (Ok (carried j)) one.of two.of two.is one.means two.means (λ e. not_an_error _ _ e) (λ e. not_an_error _ _ e)))
+    (one_by laws head text f two.frame (Ok (carried i)) (Ok (carried j)) of two.of two.is means two.means (λ e. not_an_error _ _ e) (λ e. not_an_error _ _ e)))
+
+meant_once : DataLaws → (head : PlainUnit) (text : List ℕ) (i j : PlainInputs) → IsMeant head text i → IsMeant head text j → i ≡ j
+meant_once laws head text i j one two = meant_by laws head text i j one.frame one.of one.means two
 
 data_why : (head : PlainUnit) (text : List ℕ) (f : Frame) → IsFrameOf head f → IsFrame f → IsAnswered f text → ((inputs : PlainInputs) × IsMeant head text inputs) ⊎ ((why : Why) × IsDataWhy head text why)
 data_why head text f of is (inl (i, means)) = inl (inputs_in i, record { frame = f; of = of; is = is; means = means })

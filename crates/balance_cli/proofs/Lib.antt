@@ -1,5 +1,6 @@
 pub mod CheckedArrays
 pub mod Clauses
+pub mod DemoTexts
 pub mod Endings
 pub mod Flips
 pub mod Frames

@@ -119,6 +119,16 @@ ends_given is files (Err cause) holds rose = (refl, inr (ap Err holds))
 pub follows_given : (is : Output → Type 0) (now : Told) (outcome : Result Output Stop) → MatchResult outcome is (λ cause. cause ≡ NoMemory) → Follows (give is) now now outcome
 follows_given is now outcome holds = follows_still (give is) now outcome (ends_given is now.files outcome holds)
 
+ends_nothing : (plan : Plan) (files : Files) (rose : Type 0) → Ends plan files rose [] (Err NoMemory)
+unfolding Ends
+ends_nothing (load word name next) files rose = inl (refl, refl)
+ends_nothing (ask answers stops next) files rose = inl (refl, refl)
+ends_nothing (give is) files rose = (refl, inr refl)
+
+-- no stage, for want of memory
+pub follows_nothing : (plan : Plan) (now : Told) → Follows plan now now (Err NoMemory)
+follows_nothing plan now = follows_still plan now (Err NoMemory) (ends_nothing plan now.files)
+
 -- ---- source texts, each read through a reference
 
 -- one that is taken, and the rest of the plan

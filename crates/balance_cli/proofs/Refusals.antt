@@ -18,7 +18,7 @@ use Rattle.fault_plan.specs.Answers.{Answers}
 use Rattle.fault_plan.specs.declared.refusal.FlipRefusal.{FlipRefusal}
 use Rattle.fault_plan.specs.declared.refusal.FlipRefusal.TheVariants as flip
 use Rattle.kernel_check.specs.Judging.{IsLowest}
-use Rattle.balance_cli.specs.Sources.{Wanted, AnyText, AnySource, judged_by, IsInPlace, Refuses}
+use Rattle.balance_cli.specs.Sources.{Wanted, AnyText, judged_by, IsInPlace, Refuses}
 use Rattle.balance_cli.specs.Stages.{IsFlipWhyBy, IsFramed, IsOwn, IsRefusedFor, IsSourceOf, IsSourceStop, IsTaken, IsUnitWhy}
 use Rattle.balance_cli.specs.Whys.{StopsFor}
 use Rattle.balance_cli.proofs.TextLaws.{unit_refused}

@@ -1,7 +1,8 @@
 -- What the crates below say makes each plan sound: its questions are decided, and its texts are there.
-use Rattle.std.proofs.Common.{◌≡◌, ◌⊎◌, ℕ, List, true, length, Option, Some, None, inl, inr, refl, sym, ◌∙◌, ap}
+use Rattle.std.proofs.Common.{◌≡◌, ◌⊎◌, ℕ, List, length, Option, Some, None, inl, inr, refl, sym, ◌∙◌, ap}
 use Rattle.acceptance.specs.Sources.{IsAcceptedSource}
 use Rattle.c_tree.specs.Fault.{Fault}
+use Rattle.c_tree.specs.Flips.{fault_in}
 use Rattle.c_tree.specs.Inputs.{PlainInputs}
 use Rattle.c_tree.specs.Grammar.Texts.{IsText}
 use Rattle.c_tree.specs.Layout.{layout}
@@ -18,12 +19,15 @@ use Rattle.instrumentation.specs.Guarded.{guarded}
 use Rattle.reports.specs.Texts.{report_text}
 use Rattle.interp.specs.Finished.{verdict_in, IsEnded}
 use Rattle.interp.specs.Machine.{counted}
-use Rattle.command_line.specs.Orders.{Order, print, run_file, attempt, report}
+use Rattle.command_line.specs.Orders.{Order, print, run_file, attempt, report, demo}
 use Rattle.command_line.specs.Statuses.{status_of}
 use Rattle.command_line.specs.declared.outcome.Finish.TheVariants.{Done}
 use Rattle.command_line.specs.declared.outcome.Output.{Output}
 use Rattle.source_laws.specs.Laws.{AcceptedArePrinted, AcceptedStoreNothing}
 use Rattle.flip_laws.specs.FaultyRuns.{AcceptedTellOfFaults}
+use Rattle.demo_kernels.specs.Kernels.{inputs_of, kernel_of}
+use Rattle.demo_kernels.specs.Summaries.{summary_text}
+use Rattle.balance_cli.specs.Demos.{IsDemonstrated}
 use Rattle.balance_cli.specs.Inputs.{IsMeant}
 use Rattle.balance_cli.specs.Plans.{Plan, on_flip, plan_of, running, trying}
 use Rattle.balance_cli.specs.Printed.{IsPrinted}
@@ -48,6 +52,7 @@ pub record Laws : Type 0 where
   pub accepted : AcceptedArePrinted
   pub stores : AcceptedStoreNothing
   pub printed : (u : PlainUnit) → IsAcceptedSource u → IsText (layout (guarded u)) (guarded u)
+  pub kernels : (number : ℕ) → IsAcceptedSource (kernel_of number).unit
 
 -- each unit that is run has a frame
 framed : Laws → (u : PlainUnit) → IsTakenUnit AnyText u → HasFrame u
@@ -160,6 +165,34 @@ report_given source = record {
   same = λ o p one two. one.done ∙ sym two.done;
 }
 
+demo_text : Laws → (number : ℕ) → (output : Output) × IsDemonstrated number output
+demo_text laws number =
+    let k = kernel_of number in
+    let framed = laws.source_frames k.unit (laws.kernels number) in
+    let source = shown_end (run.run k.unit (inputs_of number) None) in
+    let without = shown_end (run.run (guarded k.unit) (inputs_of number) None) in
+    let flipped = shown_end (run.run (guarded k.unit) (inputs_of number) (Some (fault_in k.flip))) in (
+      record { text = summary_text number source.0.accesses source.0.body_turns framed.frame.arrays without.0.verdict flipped.0.verdict; finish = Done },
+      record {
+        ended = source.0;
+        is = source.1;
+        unit = guarded k.unit;
+        made = refl;
+        faults = laws.faults k.unit (laws.kernels number);
+        without = without.0;
+        without_is = without.1;
+        flipped = flipped.0;
+        flipped_is = flipped.1;
+        frame = framed.frame;
+        of = framed.of;
+        text = refl;
+        done = refl;
+      },
+    )
+
+demo_given : Laws → (number : ℕ) → IsGiven (IsDemonstrated number)
+demo_given laws number = record { some = demo_text laws number; same = λ o p one two. one.done ∙ sym two.done }
+
 -- ---- source texts
 
 source_why : (kind : Wanted) (text : List ℕ) → ((a : PlainUnit) × Accepts kind text a) ⊎ ((why : Refusal) × Refuses kind text why) → ((a : PlainUnit) × Accepts kind text a) ⊎ ((why : Why) × IsSourceWhy kind text why)
@@ -212,3 +245,4 @@ plan_is_sound laws (attempt source input flip) = λ text within. (
   ),
 )
 plan_is_sound laws (report source) = λ text within. (judged_decided laws.texts AnySource text, λ unit is. report_given unit)
+plan_is_sound laws (demo number) = demo_given laws number

@@ -1,4 +1,5 @@
 pub mod Calls
+pub mod Demos
 pub mod Flips
 pub mod Inputs
 pub mod Met

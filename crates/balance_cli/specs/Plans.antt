@@ -7,12 +7,13 @@ use Rattle.c_tree.specs.Fault.{Fault}
 use Rattle.c_tree.specs.Inputs.{PlainInputs}
 use Rattle.c_tree.specs.Plain.{PlainUnit}
 use Rattle.command_line.specs.Lines.{limit_of}
-use Rattle.command_line.specs.Orders.{Order, print, run_file, attempt, report}
+use Rattle.command_line.specs.Orders.{Order, print, run_file, attempt, report, demo}
 use Rattle.command_line.specs.declared.outcome.FileWord.{FileWord}
 use Rattle.command_line.specs.declared.outcome.FileWord.TheVariants.{Source, File, Data, Flip}
 use Rattle.command_line.specs.declared.outcome.Output.{Output}
 use Rattle.command_line.specs.declared.outcome.Stop.{Stop}
 use Rattle.command_line.specs.declared.outcome.Stop.TheVariants.{ReadFault, TooLong, NoMemory}
+use Rattle.balance_cli.specs.Demos.{IsDemonstrated}
 use Rattle.balance_cli.specs.Flips.{MeansFault, IsFlipWhy}
 use Rattle.balance_cli.specs.Inputs.{IsMeant, IsDataWhy}
 use Rattle.balance_cli.specs.Printed.{IsPrinted}
@@ -68,6 +69,7 @@ plan_of (print source) = load Source source (λ text. judge AnySource text print
 plan_of (run_file file input flip) = load File file (λ text. judge AnyText text (on_data input (on_flip flip running)))
 plan_of (attempt source input flip) = load Source source (λ text. judge AnySource text (on_data input (on_flip flip trying)))
 plan_of (report source) = load Source source (λ text. judge AnySource text reporting)
+plan_of (demo number) = give (IsDemonstrated number)
 
 -- ---- files, where they are told
 

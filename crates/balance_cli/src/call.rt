@@ -11,10 +11,11 @@ use crate::stages::prepared;
 use c_lexer::one_reading;
 use c_parser::one_unit;
 use command_line::{
-    Command, Output, Status, Stop, cannot_write, command_of, finished, line, no_memory, status_of,
-    try_line, usage,
+    Command, Output, Status, Stop, WordsError, cannot_write, command_of, finished, line, no_memory,
+    status_of, try_line, usage,
 };
 use data_file::{fits_as_frame, fits_as_meant, one_answer, some_answer};
+use demo_kernels::kernels_are_usable;
 use edge::{Shelf, Sink, write_all};
 use fault_plan::{one_flip_answer, some_flip_answer};
 use flip_laws::accepted_sources_tell_of_faults;
@@ -60,15 +61,16 @@ fn answered<F: Shelf, O: Sink, E: Sink>(
 ) -> Status
     ensures { IsCall (order_of (map string_bytes words.now)) (met F.told shelf.old shelf.new O.held out.old out.new E.held err.old err.new) result }
 {
-    match command_of(words) {
-        None => {
-            try_line(err, usage());
-            Status::Usage
-        }
-        Some(command) => match prepared(alloc, command, shelf) {
+    match command_of(alloc, words) {
+        Ok(command) => match prepared(alloc, command, shelf) {
             Ok(output) => written(&output, out, err),
             Err(cause) => refused(alloc, command, &cause, err),
         },
+        Err(WordsError::Usage) => {
+            try_line(err, usage());
+            Status::Usage
+        }
+        Err(WordsError::OutOfMemory) => no_memory(err),
     }
 }
 
@@ -112,6 +114,7 @@ pub fn balance<F: Shelf, O: Sink, E: Sink>(
     accepted_sources_tell_of_faults();
     accepted_sources_are_printed();
     instrumented_units_have_texts();
+    kernels_are_usable();
     answered(alloc, words, shelf, out, err)
 }
 

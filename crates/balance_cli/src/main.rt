@@ -8,6 +8,7 @@ ghost use Rattle.std.specs.Vec.Iter.{into_iter_items};
 
 mod call;
 mod checking;
+mod demos;
 mod faults;
 mod inputs;
 mod judging;

@@ -44,8 +44,8 @@ fn shown(alloc: Global, frame: &Frame, ended: &Ended) -> Result<Output, Stop>
     })
 }
 
-// The end of the run of a unit under a flip. No unit has 2^31 parameters in earnest.
-fn end_of(
+/// The end of the run of a unit under a flip. No unit has 2^31 parameters in earnest.
+pub fn end_of(
     alloc: Global,
     unit: &Unit,
     inputs: &Inputs,

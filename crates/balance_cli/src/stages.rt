@@ -6,7 +6,7 @@ ghost use Rattle.c_tree.specs.Inputs.{Fit};
 ghost use Rattle.c_tree.specs.Trees.{unit as unit_in};
 ghost use Rattle.data_file.specs.Checks.{Fits};
 ghost use Rattle.interp.specs.Finished.{inputs_in};
-ghost use Rattle.command_line.specs.Commands.{given, ordered};
+ghost use Rattle.command_line.specs.Commands.{given, ordered, IsInRange};
 ghost use Rattle.command_line.specs.Orders.{print as print_order, run_file as run_order, attempt as attempt_order, report as report_order};
 ghost use Rattle.balance_cli.specs.Plans.{Follows, on_flip, plan_of, running, trying};
 ghost use Rattle.balance_cli.specs.Printed.{IsPrinted};
@@ -15,6 +15,7 @@ ghost use Rattle.balance_cli.specs.Sources.{AnySource, AnyText};
 ghost use Rattle.balance_cli.specs.Stages.{IsFramed, IsLoad, frame_of, unit_of};
 ghost use Rattle.command_line.specs.declared.outcome.Stop.TheVariants.{NoMemory};
 
+use crate::demos::demo;
 use crate::faults::read_fault;
 use crate::inputs::read;
 use crate::judging::{any_text, source as source_in};
@@ -202,6 +203,7 @@ pub fn prepared<F: Shelf>(
     command: Command<'_>,
     shelf: &mut F,
 ) -> Result<Output, Stop>
+    requires { IsInRange command }
     ensures { Follows (plan_of (ordered command.entry)) (F.told shelf.old) (F.told shelf.new) result }
 {
     match command {
@@ -213,5 +215,6 @@ pub fn prepared<F: Shelf>(
             flip,
         } => attempt(alloc, source, input, flip, shelf),
         Command::Report { source } => report(alloc, source, shelf),
+        Command::Demo { number } => demo(alloc, number),
     }
 }

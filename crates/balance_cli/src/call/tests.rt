@@ -2,6 +2,7 @@
 
 use super::balance;
 use command_line::Status;
+use demo_kernels::kernel_of;
 use edge::{ByteList, FileList, MemShelf, MemSink, NamedFile, Numbers};
 use std::alloc::{AllocError, Global};
 use std::process::Abort;
@@ -287,6 +288,19 @@ fn ends_by_the_table(rt: HostRuntime) -> Result<(), Fail> {
             USAGE,
         ),
         (SHIFT_FILE, "run shift.c", NONE, Status::Usage, 0, "", USAGE),
+        (
+            SHIFT_FILE,
+            "print --split --split shift.c",
+            NONE,
+            Status::Usage,
+            0,
+            "",
+            USAGE,
+        ),
+        (SHIFT_FILE, "demo", NONE, Status::Usage, 0, "", USAGE),
+        (SHIFT_FILE, "demo 400", NONE, Status::Usage, 0, "", USAGE),
+        (SHIFT_FILE, "demo 000000", NONE, Status::Usage, 0, "", USAGE),
+        (SHIFT_FILE, "demo 1 2", NONE, Status::Usage, 0, "", USAGE),
         (SHIFT_FILE, "try", NONE, Status::Usage, 0, "", USAGE),
         (
             SHIFT_FILE,
@@ -1085,5 +1099,124 @@ fn reports(rt: HostRuntime) -> Result<(), Fail> {
         assert_eq!(rt; left.out.bytes.as_slice(), out.as_bytes(), "{told}");
         assert_eq!(rt; left.err.bytes.as_slice(), told.as_bytes());
     }
+    Ok(())
+}
+
+// The summaries of demonstrations.
+const SUMMARIES: &[(&str, &str)] = &[
+    (
+        "demo 0",
+        "demo 0 shift n 8\naccesses 14 turns 7\nbalanced\nflip A 1 0 at 2\nfault A\n",
+    ),
+    (
+        "demo 1",
+        "demo 1 mm n 8\naccesses 2048 turns 584\nbalanced\nflip B 0 1 at 2\nfault B\n",
+    ),
+    (
+        "demo 2",
+        "demo 2 jac n 8\naccesses 240 turns 104\nbalanced\nflip A 2 2 at 1\nfault A\n",
+    ),
+    (
+        "demo 00003",
+        "demo 3 gather n 8\naccesses 24 turns 8\nbalanced\nflip P 0 63 at 0\nindex X\n",
+    ),
+    (
+        "demo 32",
+        "demo 32 shift n 16\naccesses 30 turns 15\nbalanced\nflip A 1 32 at 2\nfault A\n",
+    ),
+    (
+        "demo 34",
+        "demo 34 jac n 16\naccesses 1120 turns 464\nbalanced\nflip A 2 34 at 1\nfault A\n",
+    ),
+    (
+        "demo 35",
+        "demo 35 gather n 16\naccesses 48 turns 16\nbalanced\nflip P 0 63 at 0\nindex X\n",
+    ),
+];
+
+#[test]
+fn demonstrates(rt: HostRuntime) -> Result<(), Fail> {
+    for (line, summary) in SUMMARIES {
+        let left = call(rt.alloc(), &[], line, NONE)?;
+        assert_eq!(rt; left.status, Status::Done, "{line}");
+        assert_eq!(rt; left.out.bytes.as_slice(), summary.as_bytes(), "{line}");
+        assert_eq!(rt; left.err.bytes.as_slice(), b"".as_slice(), "{line}");
+        assert_eq!(rt; left.loads, 0, "{line}");
+    }
+    Ok(())
+}
+
+// A product of matrices of 16 rows: 18 million turns for each verdict.
+#[test]
+fn demonstrates_a_product(rt: HostRuntime) -> Result<(), Fail> {
+    let left = call(rt.alloc(), &[], "demo 33", NONE)?;
+    assert_eq!(rt; left.status, Status::Done);
+    assert_eq!(rt;
+        left.out.bytes.as_slice(),
+        b"demo 33 mm n 16\naccesses 16384 turns 4368\nbalanced\nflip B 0 33 at 2\nfault B\n".as_slice()
+    );
+    Ok(())
+}
+
+fn named(alloc: Global, name: &str, bytes: &[u8]) -> Result<NamedFile, Fail> {
+    Ok(NamedFile::new(
+        String::from_str(alloc, name)?,
+        ByteList::new(Vec::from_slice(alloc, bytes)?),
+    ))
+}
+
+// Whether the output of `run` on what `print` writes of the source of a demonstration ends so, and its status.
+fn verdict_of(
+    alloc: Global,
+    number: u32,
+    line: &str,
+    verdict: &[u8],
+) -> Result<(Status, bool), Fail> {
+    if number > 399 {
+        return Ok((Status::Usage, false));
+    }
+    let demo = kernel_of(alloc, number)?;
+    let mut sources = FileList::new(alloc);
+    sources.push(named(alloc, "k.c", demo.source.as_slice())?)?;
+    let printed = called(alloc, sources, "print k.c", NONE)?;
+    let mut files = FileList::new(alloc);
+    files.push(named(alloc, "k.out.c", printed.out.bytes.as_slice())?)?;
+    files.push(named(alloc, "d", demo.inputs.as_slice())?)?;
+    files.push(named(alloc, "f", demo.flip.as_slice())?)?;
+    let left = called(alloc, files, line, NONE)?;
+    Ok((left.status, left.out.bytes.as_slice().ends_with(verdict)))
+}
+
+#[test]
+fn runs_what_it_prints_of_demonstrations(rt: HostRuntime) -> Result<(), Fail> {
+    for (number, fault) in [
+        (0, b"\nfault A\n".as_slice()),
+        (1, b"\nfault B\n"),
+        (2, b"\nfault A\n"),
+        (3, b"\nindex X\n"),
+    ] {
+        assert_eq!(rt;
+            verdict_of(rt.alloc(), number, "run k.out.c d", b"\nbalanced\n")?,
+            (Status::Done, true),
+            "{number}"
+        );
+        assert_eq!(rt;
+            verdict_of(rt.alloc(), number, "run k.out.c d f", fault)?,
+            (Status::Reported, true),
+            "{number}"
+        );
+    }
+    Ok(())
+}
+
+#[test]
+fn cuts_a_summary_where_a_write_fails(rt: HostRuntime) -> Result<(), Fail> {
+    let left = call(rt.alloc(), &[], "demo 0", Failing { write: 3, ..NONE })?;
+    assert_eq!(rt; left.status, Status::WriteFault);
+    assert_eq!(rt; left.out.bytes.as_slice(), b"demo 0 shift n 8".as_slice());
+    assert_eq!(rt;
+        left.err.bytes.as_slice(),
+        b"balance: cannot write\n".as_slice()
+    );
     Ok(())
 }

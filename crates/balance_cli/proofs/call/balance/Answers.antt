@@ -44,6 +44,7 @@ returns-clause-complete g c = complete (record {
   accepted = c.accepted_sources_are_printed.ensures.printed;
   stores = c.accepted_sources_are_printed.ensures.stores;
   printed = c.instrumented_units_have_texts.ensures.accepted;
+  kernels = c.kernels_are_usable.ensures.accepted;
 }) _ _ _ c.answered.ensures
 
 pub returns-clause-determined : goal.returns-clause-determined
@@ -76,4 +77,5 @@ returns-clause-determined g c = determined_end (record {
   accepted = c.accepted_sources_are_printed.ensures.printed;
   stores = c.accepted_sources_are_printed.ensures.stores;
   printed = c.instrumented_units_have_texts.ensures.accepted;
+  kernels = c.kernels_are_usable.ensures.accepted;
 }) _ _ _ c.answered.ensures
