@@ -6,13 +6,8 @@
 # and ends with 1 where an answer is another.
 #   benches/hostile.sh [PROGRAM] [BYTES]
 set -eu
-benches=$(cd "$(dirname "$0")" && pwd)
-program=${1:-bin/balance}
+. "$(dirname "$0")/setup.sh" "${1:-}"
 bytes=${2:-16777216}
-[ -x "$program" ] || { echo "benches/hostile.sh: no program at $program (make build)" >&2; exit 1; }
-folder=$(mktemp -d)
-trap 'rm -rf "$folder"' EXIT
-export PYTHONPATH=$benches PYTHONDONTWRITEBYTECODE=1
 python3 - "$program" "$folder" "$bytes" "$benches/.." <<'PY'
 import ast, os, re, sys
 from measure import measured

@@ -7,12 +7,7 @@
 #   arrays  16 arrays of 262,144 cells, through which a sum goes
 #   benches/memory.sh [PROGRAM]
 set -eu
-benches=$(cd "$(dirname "$0")" && pwd)
-program=${1:-bin/balance}
-[ -x "$program" ] || { echo "benches/memory.sh: no program at $program (make build)" >&2; exit 1; }
-folder=$(mktemp -d)
-trap 'rm -rf "$folder"' EXIT
-export PYTHONPATH=$benches PYTHONDONTWRITEBYTECODE=1
+. "$(dirname "$0")/setup.sh" "${1:-}"
 python3 - "$benches" "$program" "$folder" <<'PY'
 import os, sys
 import tree

@@ -6,12 +6,7 @@
 #   comment      one comment
 #   benches/parse.sh [PROGRAM]
 set -eu
-benches=$(cd "$(dirname "$0")" && pwd)
-program=${1:-bin/balance}
-[ -x "$program" ] || { echo "benches/parse.sh: no program at $program (make build)" >&2; exit 1; }
-folder=$(mktemp -d)
-trap 'rm -rf "$folder"' EXIT
-export PYTHONPATH=$benches PYTHONDONTWRITEBYTECODE=1
+. "$(dirname "$0")/setup.sh" "${1:-}"
 python3 - "$program" "$folder" <<'PY'
 import os, sys
 from measure import fastest, measured

@@ -8,12 +8,7 @@
 # Printing is linear in what it prints where the longer texts have as many bytes a second as the shorter.
 #   benches/print.sh [PROGRAM]
 set -eu
-benches=$(cd "$(dirname "$0")" && pwd)
-program=${1:-bin/balance}
-[ -x "$program" ] || { echo "benches/print.sh: no program at $program (make build)" >&2; exit 1; }
-folder=$(mktemp -d)
-trap 'rm -rf "$folder"' EXIT
-export PYTHONPATH=$benches PYTHONDONTWRITEBYTECODE=1
+. "$(dirname "$0")/setup.sh" "${1:-}"
 python3 - "$benches" "$program" "$folder" <<'PY'
 import os, sys
 from measure import fastest

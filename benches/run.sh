@@ -8,13 +8,8 @@
 # statement, on the same data, is subtracted: it has read and written as many cells.
 #   benches/run.sh [ROUNDS] [PROGRAM]
 set -eu
-benches=$(cd "$(dirname "$0")" && pwd)
-program=${2:-$benches/../bin/balance}
-[ -x "$program" ] || { echo "benches/run.sh: no program at $program (make build)" >&2; exit 1; }
-work=$(mktemp -d)
-trap 'rm -rf "$work"' EXIT
-export PYTHONPATH=$benches PYTHONDONTWRITEBYTECODE=1
-python3 - "$benches" "$program" "$work" "${1:-5}" <<'PY'
+. "$(dirname "$0")/setup.sh" "${2:-}"
+python3 - "$benches" "$program" "$folder" "${1:-5}" <<'PY'
 import filecmp, os, random, subprocess, sys
 import driver, tree
 from measure import succeeded

@@ -24,4 +24,4 @@ printf 'try\nshift.c\n{}\n' > "$work/cases/try shift.c shift.data.args"
 source=$PWD/examples/shift.c
 cd crates/balance_cli
 rt try --data "shift.c=$source" --cases "$work/cases" 2> "$work/log" || { cat "$work/log" >&2; exit 1; }
-echo 'This run is not proved: "make build" proves the program (more than half an hour of processor from nothing), and "make run" then shows the proved one.'
+echo 'This run is not proved: "make build" proves the program (about an hour and a half of processor from nothing), and "make run" then shows the proved one.'
