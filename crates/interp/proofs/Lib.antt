@@ -13,6 +13,7 @@ pub mod StandsWides
 pub mod StandsSteps
 pub mod StandsTrees
 pub mod ExtentsProducts
+pub mod Deeper
 pub mod ExtentsIntervals
 pub mod Extents
 pub mod WholeNames

@@ -1,5 +1,5 @@
 -- Signed subscripts lead where the list of their values row_major.
-use Rattle.std.proofs.Common.{◌≡◌, ℕ, ◌+◌, ◌*◌, ◌%◌, ◌^◌, ◌&&◌, ◌≤◌, length, Bool, true, false, cond, List, [], ◌∷◌, map, ℤ, pos, Option, Some, None, refl, ap, ◌∙◌, arith}
+use Rattle.std.proofs.Common.{◌≡◌, ℕ, ◌+◌, ◌*◌, ◌%◌, ◌^◌, ◌&&◌, ◌≤◌, ◌<◌, length, Bool, true, false, cond, List, [], ◌∷◌, map, ℤ, pos, Option, Some, None, refl, ap, ◌∙◌, arith}
 use Rattle.std.specs.Prelude.{slice_get, int_le, int_lt}
 use Rattle.c_tree.specs.Values.{word_bin}
 use Rattle.c_tree.specs.Arrays.{size_of}
@@ -34,6 +34,10 @@ row_major_no_index rows (x ∷ xs) (Max' q a t b) at ns h = refl
 pub row_major_short : (rows : ℕ) (xs : List ℤ) (ns : List ℤ) → 1 ≤ length xs → row_major rows xs [] ns ≡ None
 row_major_short rows [] ns h = absurd (omega (arith, h))
 row_major_short rows (x ∷ xs) ns h = refl
+
+pub row_major_past : (rows : ℕ) (xs : List ℤ) (at : List WordExpr) (ns : List ℤ) → length at < 1 → 1 ≤ length xs → row_major rows xs at ns ≡ None
+row_major_past rows xs [] ns none h = row_major_short rows xs ns h
+row_major_past rows xs (e ∷ at) ns none h = absurd (omega (arith, none))
 
 -- ---- the list of their values
 

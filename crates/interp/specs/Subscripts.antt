@@ -13,6 +13,9 @@ row_major rows (x ∷ xs) (w.Index e ∷ at) ns =
     if int_le (pos 0) (signed_of e ns) && int_lt (signed_of e ns) x then row_major ((rows * size_of x + size_of (signed_of e ns)) % 2 ^ 64) xs at ns else None
 row_major rows _ _ ns = None
 
+abbrev pub next_row : ℕ → ℤ → ℤ → Option ℕ
+next_row rows x c = if int_le (pos 0) c && int_lt c x then Some ((rows * size_of x + size_of c) % 2 ^ 64) else None
+
 -- behind a base
 abbrev pub behind_base : ℕ → Option ℕ → Option ℕ
 behind_base b None = None

@@ -15,7 +15,6 @@ use crate::signed::signed;
 use crate::slots::{Step, WideExpr, WordExpr};
 use crate::stop::Stop;
 use crate::subscripts::find_signed;
-use crate::values::Values;
 use crate::words;
 use c_tree::{BinOp, Rel};
 use sqlite_items::Items;
@@ -36,6 +35,7 @@ fn end_of(lo: i64, rel: Rel, hi: i64) -> i128
 impl Machine {
     /// Runs a statement.
     #[cycle(exec)]
+    #[inline(never)]
     fn exec<'x>(
         &mut self,
         alloc: Global,
@@ -58,7 +58,7 @@ impl Machine {
             } => if self.all_hold(alloc, scene, why, tests.as_slice())? {
                 self.exec_all(alloc, scene, why, first)
             } else {
-                self.exec_all(alloc, scene, why, other)
+                self.exec_other(alloc, scene, why, other)
             },
             Step::SetWord { word, op, value } => {
                 self.assign_word(alloc, scene, why, *word, *op, value)
@@ -101,6 +101,25 @@ impl Machine {
         }
     }
 
+    /// Runs statements of which there are often none.
+    #[cycle(exec)]
+    #[inline(always)]
+    fn exec_other<'x>(
+        &mut self,
+        alloc: Global,
+        scene: &'x Scene<'x>,
+        why: &mut Stop,
+        body: &'x Items<Step>,
+    ) -> Option<()>
+        ensures { Tells (λ u. u) result why.new self.new (in_order (map (does (all_placed scene.now.places.now)) body.now) (values_in scene.now.values) self.old) }
+    {
+        if body.is_empty() {
+            Some(())
+        } else {
+            self.exec_all(alloc, scene, why, body)
+        }
+    }
+
     /// Runs statements one after the other.
     #[cycle(exec)]
     fn exec_all<'x>(
@@ -133,12 +152,13 @@ impl Machine {
         ensures { Tells (λ u. u) result why.new self.new (over (turn (map (does (all_placed scene.now.places.now)) body.now) (values_in scene.now.values)) (loop_values lo rel hi) self.old) }
     {
         let end = end_of(lo, rel, hi);
+        let mut inner = Scene {
+            places: scene.places,
+            values: scene.values.deeper(),
+        };
         for v in lo as i128..end {
             self.count_turn();
-            let inner = Scene {
-                places: scene.places,
-                values: Values::Inside(v as i64, &scene.values),
-            };
+            inner.values.set_nearest(v as i64);
             self.exec_all(alloc, &inner, why, body)?;
         }
         Some(())

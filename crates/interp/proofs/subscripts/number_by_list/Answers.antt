@@ -4,7 +4,7 @@ use Rattle.interp.specs.declared.slots.WordExpr.{WordExpr}
 use Rattle.interp.specs.Subscripts.{row_major}
 use Rattle.interp.specs.Values.{values_in}
 use Rattle.interp.proofs.SignedSubscripts.{row_major_no_index, row_major_short}
-use Rattle.interp.proofs.subscripts.number_of.Goals as goal
+use Rattle.interp.proofs.subscripts.number_by_list.Goals as goal
 
 pub returns-in_default : goal.returns-in_default
 returns-in_default c =
