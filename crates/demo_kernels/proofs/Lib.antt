@@ -1,6 +1,5 @@
 pub mod Drawn
 pub mod Facts
-pub mod Flips
 pub mod Frames
 pub mod Lines
 pub mod Sources
