@@ -5,6 +5,7 @@ ghost use Rattle.c_tree.specs.Plain.{PlainExprs, PlainStmt, PlainUnit};
 ghost use Rattle.instrumentation_laws.specs.Kept.{Kept};
 ghost use Rattle.acceptance.specs.Sources.{IsAcceptedSource};
 ghost use Rattle.epilogue.specs.Filling.{Fills};
+ghost use Rattle.epilogue.specs.Turning.{Turns};
 
 /// With pieces that count, the tables and the prologue of an accepted source leave each definition total at the sum over the initial cells of value times uses, store into no array, and change no word of the source.
 pub fn prologues_fill()
@@ -12,4 +13,11 @@ pub fn prologues_fill()
 {
     source_laws::accepted_sources_follow();
     instrumentation_laws::kept_prologues_fill();
+}
+
+/// The tables and the prologue of an accepted source make the turns of the tables once, those of a walk over the cells of each array, and those of the piece of each cell.
+pub fn prologues_turn()
+    ensures { (u : PlainUnit) (tables : List PlainStmt) (cells : ℕ → PlainExprs → List PlainStmt) → IsAcceptedSource u → Turns u tables cells }
+{
+    source_laws::accepted_sources_follow();
 }
