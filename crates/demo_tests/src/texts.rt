@@ -51,7 +51,7 @@ void mm(int64_t n, const uint64_t A[n][n], const uint64_t B[n][n], uint64_t C[n]
     );
     let inputs = demo.inputs.as_slice();
     assert_eq!(rt; inputs.len(), 3931);
-    assert!(rt; inputs.starts_with(b"n = 8\nA = 7806831264735756412 939690872811881141 "));
+    assert!(rt; inputs.starts_with(b"n = 8\nA = 7806831264735756412 9396908728118811419 "));
     assert!(rt; inputs.ends_with(b" 8846919770277698170 2331237824956985025\n"));
     assert_eq!(rt; demo.flip.as_slice(), b"flip B 0 1 at 2\n".as_slice());
     Ok(())
