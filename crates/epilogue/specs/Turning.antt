@@ -3,7 +3,8 @@ use Rattle.std.specs.Prelude.{◌≡◌, ℕ, suc, ◌+◌, List, [], ◌∷◌,
 use Rattle.c_tree.specs.Plain.{Word, PlainExprs, PlainStmt, PlainUnit}
 use Rattle.c_tree.specs.Trees.{stmts_of}
 use Rattle.c_tree.specs.Values.{Vars}
-use Rattle.c_tree.specs.Arrays.{Array, all_cells, cell_walk, vars_of}
+use Rattle.c_tree.specs.Accesses.{Within}
+use Rattle.c_tree.specs.Arrays.{Array, all_cells, cell_walk, extents_of, vars_of}
 use Rattle.c_tree.specs.Fault.{Upset}
 use Rattle.c_tree.specs.Inputs.{PlainInputs, arrays_for, Fit}
 use Rattle.c_tree.specs.Run.{State, Scope, exec_all}
@@ -23,7 +24,7 @@ pub record Makes (n : ℕ) (s t : State) : Type 0 where
 abbrev pub PiecesMake : Scope → Vars → (ℕ → PlainExprs → List PlainStmt) → (ℕ → List ℤ → ℕ) → ℕ → List (Word × PlainExprs) → Type 0
 PiecesMake sc vs cells n a [] = Unit {0}
 PiecesMake sc vs cells n a (x ∷ more) =
-    ((cs : List ℤ) (s : State) → WhereGoing (Makes (n a cs) s) (exec_all sc (stmts_of (cells a x.1)) (coordinate_vars 0 cs vs) s)) × PiecesMake sc vs cells n (suc a) more
+    ((cs : List ℤ) (s : State) → Within (extents_of vs x.1) cs → WhereGoing (Makes (n a cs) s) (exec_all sc (stmts_of (cells a x.1)) (coordinate_vars 0 cs vs) s)) × PiecesMake sc vs cells n (suc a) more
 
 -- a walk over the cells of each array from number a on, and the turns of its piece at each cell
 abbrev pub walks_with : (ℕ → List ℤ → ℕ) → ℕ → List Array → ℕ
