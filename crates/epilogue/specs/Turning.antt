@@ -1,5 +1,5 @@
 -- The turns of tables and a prologue, by those of its pieces.
-use Rattle.std.specs.Prelude.{◌≡◌, ℕ, suc, ◌+◌, List, [], ◌∷◌, ◌++◌, ℤ, Option}
+use Rattle.std.specs.Prelude.{ℕ, suc, ◌+◌, List, [], ◌∷◌, ◌++◌, ℤ, Option}
 use Rattle.c_tree.specs.Plain.{Word, PlainExprs, PlainStmt, PlainUnit}
 use Rattle.c_tree.specs.Trees.{stmts_of}
 use Rattle.c_tree.specs.Values.{Vars}
@@ -13,12 +13,7 @@ use Rattle.instrumentation.specs.Prologue.{prologue_text}
 use Rattle.instrumentation_laws.specs.PrologueTotals.{cell_sum, coordinate_vars}
 use Rattle.instrumentation_laws.specs.RegularUnits.{wides_for}
 use Rattle.instrumentation_laws.specs.Setting.{scope_of}
-use Rattle.pass_laws.specs.Going.{WhereGoing, Turned}
-
--- so many turns, and the text has begun as before
-pub record Makes (n : ℕ) (s t : State) : Type 0 where
-  pub begun : t.begun ≡ s.begun
-  pub turned : Turned n s t
+use Rattle.pass_laws.specs.Going.{WhereGoing, Makes}
 
 -- At each cell of the arrays from number a on the piece of the array makes so many turns, wherever it goes on.
 abbrev pub PiecesMake : Scope → Vars → (ℕ → PlainExprs → List PlainStmt) → (ℕ → List ℤ → ℕ) → ℕ → List (Word × PlainExprs) → Type 0

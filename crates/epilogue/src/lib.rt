@@ -6,4 +6,4 @@ mod ends;
 mod laws;
 
 pub use ends::{epilogue, prologue};
-pub use laws::{prologues_fill, prologues_turn};
+pub use laws::{prologues_fill, prologues_keep, prologues_turn};

@@ -19,6 +19,7 @@ pub mod Instance
 pub mod Writes
 pub mod Cells
 pub mod Pieces
+pub mod Evaluated
 pub mod Steady
 pub mod SourceTurns
 pub mod TextTurns

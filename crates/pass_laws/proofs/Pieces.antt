@@ -22,7 +22,7 @@ use Rattle.instrumentation_laws.specs.PrologueTotals.{coordinate_vars}
 use Rattle.instrumentation_laws.proofs.Names.{apart_as}
 use Rattle.instrumentation_laws.proofs.Declared.{count_in}
 use Rattle.pass_laws.specs.Countable.{AreCountable}
-use Rattle.pass_laws.specs.Going.{GoesTo, HasCounters, Leaves}
+use Rattle.pass_laws.specs.Going.{GoesTo, HasCounters, Leaves, Makes}
 use Rattle.pass_laws.specs.Places.{IsPlace}
 use Rattle.pass_laws.specs.Laws.{PassesGoOn, SitesGoOn, PassesTurn, WritesArePlaces, CellsArePlaces, IsByTarget, WritesAreByTargets, TargetsAreKnown, PiecesAreByTargets, PassesCount, UnitsHaveCounters}
 use Rattle.pass_laws.specs.Targets.{targets_all, target_at, is_inspected}
@@ -30,7 +30,7 @@ use Rattle.pass_laws.proofs.Targeted.{piece_of as piece_of_target}
 use Rattle.pass_laws.proofs.Going.{must_weaker, must_is, state_of}
 use Rattle.pass_laws.proofs.Quiet.{AreQuiet, Kept, quiet_all}
 use Rattle.pass_laws.proofs.QuietPasses.{pass_quiet, cell_target, site_quiet, cell_quiet}
-use Rattle.pass_laws.proofs.Turned.{Spun, pass_turns}
+use Rattle.pass_laws.proofs.Turned.{pass_turns}
 use Rattle.pass_laws.proofs.Sites.{names_at_all, Facts, facts_all}
 use Rattle.pass_laws.proofs.Renamed.{names}
 use Rattle.pass_laws.proofs.Instance.{place_around}
@@ -46,7 +46,7 @@ passes_go_on sc arrays number body params target site has countable plain free v
 
 pub passes_turn : PassesTurn
 passes_turn sc arrays number body params base target site has own countable plain free place s =
-    must_weaker (Spun _ s) _ (exec_all sc (stmts_of (pass_text number body target site)) base s) (λ t k. k.turned)
+    must_weaker (Makes _ s) _ (exec_all sc (stmts_of (pass_text number body target site)) base s) (λ t k. k.turned)
     (pass_turns sc has arrays number params base place own target free site body s countable plain)
 
 -- ---- the assignments of a source

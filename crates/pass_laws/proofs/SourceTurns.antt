@@ -11,12 +11,13 @@ use Rattle.c_tree.specs.Run.{State, Outcome, goes_on, ends, plain, struck_at_end
 use Rattle.instrumentation_laws.specs.AccessList.{tests_hold}
 use Rattle.instrumentation_laws.proofs.Steps.{all_hold_is}
 use Rattle.pass_laws.specs.Countable.{IsCountable, AreCountable}
-use Rattle.pass_laws.specs.Going.{GoesTo, WhereGoing, Turned}
+use Rattle.pass_laws.specs.Going.{GoesTo, WhereGoing, Turned, Makes}
 use Rattle.pass_laws.specs.Laws.{SourcesTurn, UnitsTurn}
 use Rattle.pass_laws.specs.Turns.{turns, turns_all}
 use Rattle.pass_laws.proofs.Steps.{affine_tests}
-use Rattle.pass_laws.proofs.Steady.{Arrives, Steady, calm_assigned, calm_tests}
-use Rattle.pass_laws.proofs.Turned.{Spun, spun_then, spun_none, spun_turn}
+use Rattle.pass_laws.proofs.Evaluated.{Arrives}
+use Rattle.pass_laws.proofs.Steady.{Steady, calm_assigned, calm_tests}
+use Rattle.pass_laws.proofs.Turned.{spun_then, spun_none, spun_turn}
 
 pub going_then : {A B : Type 0} (P Q : State → Type 0) (o : Outcome A) (f : A → Run B) → WhereGoing P o → ((a : A) (t : State) → P t → WhereGoing Q (f a t)) → WhereGoing Q (and_then o f)
 going_then P Q (goes_on a t) f p h = h a t p
@@ -26,42 +27,42 @@ pub going_weaker : {A : Type 0} (P Q : State → Type 0) (o : Outcome A) → ((t
 going_weaker P Q (goes_on a t) h p = h t p
 going_weaker P Q (ends e t) h p = tt
 
-pub spun_steady : {A : Type 0} (o : Outcome A) (s : State) → Arrives (Steady s) o → WhereGoing (Spun 0 s) o
+pub spun_steady : {A : Type 0} (o : Outcome A) (s : State) → Arrives (Steady s) o → WhereGoing (Makes 0 s) o
 spun_steady (goes_on a t) s h = record { begun = h.begun; turned = record { body = h.body ∙ (spun_none s).turned.body; prologue = h.prologue ∙ (spun_none s).turned.prologue } }
 spun_steady (ends e t) s h = tt
 
 -- ---- statements
 
-pub spun_on : (n m : ℕ) (s t : State) (o : Outcome (Unit {0})) → Spun n s t → WhereGoing (Spun m t) o → WhereGoing (Spun (n + m) s) o
-spun_on n m s t o p = going_weaker (Spun m t) (Spun (n + m) s) o (λ u q. spun_then n m s t u p q)
+pub spun_on : (n m : ℕ) (s t : State) (o : Outcome (Unit {0})) → Makes n s t → WhereGoing (Makes m t) o → WhereGoing (Makes (n + m) s) o
+spun_on n m s t o p = going_weaker (Makes m t) (Makes (n + m) s) o (λ u q. spun_then n m s t u p q)
 
 module _ (sc : Scope) (arrays : List Array) (number : Word → ℕ) where
-  pub over_turns : (f : ℤ → Run (Unit {0})) (n : ℤ → ℕ) → ((v : ℤ) (s : State) → WhereGoing (Spun (n v) s) (f v s)) → (vals : List ℤ) (s : State) → WhereGoing (Spun (sum_by n vals) s) (over f vals s)
+  pub over_turns : (f : ℤ → Run (Unit {0})) (n : ℤ → ℕ) → ((v : ℤ) (s : State) → WhereGoing (Makes (n v) s) (f v s)) → (vals : List ℤ) (s : State) → WhereGoing (Makes (sum_by n vals) s) (over f vals s)
   over_turns f n h [] s = spun_none s
   over_turns f n h (v ∷ vals) s =
-      subst (λ k. WhereGoing (Spun k s) (over f (v ∷ vals) s)) (sym (sum_by-cons n v vals))
-      (going_then (Spun (n v) s) (Spun (n v + sum_by n vals) s) (f v s) (λ u. over f vals) (h v s) (λ u t p. spun_on (n v) (sum_by n vals) s t (over f vals t) p (over_turns f n h vals t)))
+      subst (λ k. WhereGoing (Makes k s) (over f (v ∷ vals) s)) (sym (sum_by-cons n v vals))
+      (going_then (Makes (n v) s) (Makes (n v + sum_by n vals) s) (f v s) (λ u. over f vals) (h v s) (λ u t p. spun_on (n v) (sum_by n vals) s t (over f vals t) p (over_turns f n h vals t)))
 
-  pub body_turn : (body : PlainStmts) (vs : Vars) (n : ℕ) → ((s : State) → WhereGoing (Spun n s) (exec_all sc body vs s)) → (s : State) → WhereGoing (Spun (suc n) s) (and_then (turn s) (λ u. exec_all sc body vs))
+  pub body_turn : (body : PlainStmts) (vs : Vars) (n : ℕ) → ((s : State) → WhereGoing (Makes n s) (exec_all sc body vs s)) → (s : State) → WhereGoing (Makes (suc n) s) (and_then (turn s) (λ u. exec_all sc body vs))
   body_turn body vs n h s =
-      subst (λ k. WhereGoing (Spun k s) (and_then (turn s) (λ u. exec_all sc body vs))) (let e : 1 + n ≡ suc n = omega arith in e)
-      (going_then (Spun 1 s) (Spun (1 + n) s) (turn s) (λ u. exec_all sc body vs) (gone (turn s) (spun_turn s)) (λ u t p. spun_on 1 n s t (exec_all sc body vs t) p (h t)))
+      subst (λ k. WhereGoing (Makes k s) (and_then (turn s) (λ u. exec_all sc body vs))) (let e : 1 + n ≡ suc n = omega arith in e)
+      (going_then (Makes 1 s) (Makes (1 + n) s) (turn s) (λ u. exec_all sc body vs) (gone (turn s) (spun_turn s)) (λ u t p. spun_on 1 n s t (exec_all sc body vs t) p (h t)))
     where
-      gone : (o : Outcome (Unit {0})) → GoesTo (Spun 1 s) o → WhereGoing (Spun 1 s) o
+      gone : (o : Outcome (Unit {0})) → GoesTo (Makes 1 s) o → WhereGoing (Makes 1 s) o
       gone (goes_on u t) p = p
       gone (ends e t) p = absurd p
 
-  pub chosen_turns : (b : Bool) (n m : ℕ) (s : State) (p q : Run (Unit {0})) → WhereGoing (Spun n s) (p s) → WhereGoing (Spun m s) (q s) → WhereGoing (Spun (cond b n m) s) (cond b p q s)
+  pub chosen_turns : (b : Bool) (n m : ℕ) (s : State) (p q : Run (Unit {0})) → WhereGoing (Makes n s) (p s) → WhereGoing (Makes m s) (q s) → WhereGoing (Makes (cond b n m) s) (cond b p q s)
   chosen_turns true n m s p q h g = h
   chosen_turns false n m s p q h g = g
 
   mutual
-    source_turns : (p : PlainStmt) (vs : Vars) → IsCountable arrays number p vs → (s : State) → WhereGoing (Spun (turns p vs) s) (exec sc p vs s)
+    source_turns : (p : PlainStmt) (vs : Vars) → IsCountable arrays number p vs → (s : State) → WhereGoing (Makes (turns p vs) s) (exec sc p vs s)
     source_turns (loop x lo rel hi body) vs h s =
         over_turns (λ v. λ t. and_then (turn t) (λ u. exec_all sc body ((x, v) ∷ vs))) (λ v. suc (turns_all body ((x, v) ∷ vs)))
         (λ v. body_turn body ((x, v) ∷ vs) (turns_all body ((x, v) ∷ vs)) (source_turns_all body ((x, v) ∷ vs) (h.3 v))) (loop_values (signed lo vs) rel (signed hi vs)) s
     source_turns (choice ts first other) vs h s =
-        subst (λ o. WhereGoing (Spun (cond (tests_hold ts vs) (turns_all first vs) (turns_all other vs)) s) (and_then o (λ b. cond b (exec_all sc first vs) (exec_all sc other vs)))) (sym (all_hold_is sc ts vs s (affine_tests ts vs h.0)))
+        subst (λ o. WhereGoing (Makes (cond (tests_hold ts vs) (turns_all first vs) (turns_all other vs)) s) (and_then o (λ b. cond b (exec_all sc first vs) (exec_all sc other vs)))) (sym (all_hold_is sc ts vs s (affine_tests ts vs h.0)))
         (chosen_turns (tests_hold ts vs) (turns_all first vs) (turns_all other vs) s (exec_all sc first vs) (exec_all sc other vs) (source_turns_all first vs h.1 s) (source_turns_all other vs h.2 s))
     source_turns (assign t op e) vs h s = spun_steady (assigned sc t op e vs s) s (calm_assigned sc t op e vs s)
     source_turns (table x len) vs h s = absurd h
@@ -69,14 +70,14 @@ module _ (sc : Scope) (arrays : List Array) (number : Word → ℕ) where
     source_turns (check x extent a) vs h s = absurd h
     source_turns verdict vs h s = absurd h
 
-    pub source_turns_all : (ps : PlainStmts) (vs : Vars) → AreCountable arrays number ps vs → (s : State) → WhereGoing (Spun (turns_all ps vs) s) (exec_all sc ps vs s)
+    pub source_turns_all : (ps : PlainStmts) (vs : Vars) → AreCountable arrays number ps vs → (s : State) → WhereGoing (Makes (turns_all ps vs) s) (exec_all sc ps vs s)
     source_turns_all no_stmts vs h s = spun_none s
     source_turns_all (more_stmts p ps) vs h s =
-        going_then (Spun (turns p vs) s) (Spun (turns p vs + turns_all ps vs) s) (exec sc p vs s) (λ u. exec_all sc ps vs) (source_turns p vs h.0 s)
+        going_then (Makes (turns p vs) s) (Makes (turns p vs + turns_all ps vs) s) (exec sc p vs s) (λ u. exec_all sc ps vs) (source_turns p vs h.0 s)
         (λ u t q. spun_on (turns p vs) (turns_all ps vs) s t (exec_all sc ps vs t) q (source_turns_all ps vs h.1 t))
 
 pub sources_turn : SourcesTurn
-sources_turn sc arrays number body vs h s = going_weaker (Spun (turns_all body vs) s) (Turned (turns_all body vs) s) (exec_all sc body vs s) (λ t k. k.turned) (source_turns_all sc arrays number body vs h s)
+sources_turn sc arrays number body vs h s = going_weaker (Makes (turns_all body vs) s) (Turned (turns_all body vs) s) (exec_all sc body vs s) (λ t k. k.turned) (source_turns_all sc arrays number body vs h s)
 
 -- ---- no end is plain
 

@@ -14,7 +14,8 @@ use Rattle.instrumentation.specs.Pieces.{initial_piece, site_piece, site_pieces_
 use Rattle.instrumentation.specs.Prologue.{cell_loops, cell_text, array_text, prologue_text}
 use Rattle.instrumentation.specs.Subscripts.{indices_in}
 use Rattle.instrumentation.proofs.Subscripts.{cell_or_not, not_by_cell}
-use Rattle.pass_laws.proofs.Steady.{Arrives, Steady, calm_assigned, calm_tests}
+use Rattle.pass_laws.proofs.Evaluated.{Arrives}
+use Rattle.pass_laws.proofs.Steady.{Steady, calm_assigned, calm_tests}
 use Rattle.pass_laws.specs.Targets.{target_at}
 use Rattle.pass_laws.specs.TextTurns.{HasMade, TextsMakeNoTable}
 use Rattle.pass_laws.proofs.Targeted.{piece_of}

@@ -30,7 +30,7 @@ use Rattle.instrumentation_laws.proofs.CellLoops.{values_are, measures_more}
 use Rattle.instrumentation_laws.proofs.Names.{coordinate_not_own}
 use Rattle.instrumentation_laws.proofs.Steps.{exec_join, exec_one, all_hold_is}
 use Rattle.pass_laws.specs.Countable.{AllHaveNoCells, AreOwn, IsTarget, IsCountable, AreCountable}
-use Rattle.pass_laws.specs.Going.{GoesTo, WhereGoing, HasCounters, Turned}
+use Rattle.pass_laws.specs.Going.{GoesTo, WhereGoing, HasCounters, Turned, Makes}
 use Rattle.pass_laws.specs.Places.{IsPlace}
 use Rattle.pass_laws.specs.Turns.{turns, turns_all}
 use Rattle.pass_laws.proofs.Cells.{place_cell}
@@ -43,7 +43,7 @@ use Rattle.pass_laws.proofs.Sites.{AreNested, targets_many, targets_all_many}
 use Rattle.pass_laws.proofs.SourceTurns.{going_then, going_weaker, spun_steady, spun_on, over_turns, body_turn, chosen_turns}
 use Rattle.pass_laws.proofs.Steady.{calm_assigned}
 use Rattle.pass_laws.proofs.Steps.{affine_tests}
-use Rattle.pass_laws.proofs.Turned.{Spun, spun_none, pass_turns}
+use Rattle.pass_laws.proofs.Turned.{spun_none, pass_turns}
 
 -- ---- sums
 
@@ -122,19 +122,19 @@ sum_same k lo (suc n) =
 
 -- ---- statements in a row
 
-gone : (n : ℕ) (s : State) (o : Outcome (Unit {0})) → GoesTo (Spun n s) o → WhereGoing (Spun n s) o
+gone : (n : ℕ) (s : State) (o : Outcome (Unit {0})) → GoesTo (Makes n s) o → WhereGoing (Makes n s) o
 gone n s (goes_on u t) p = p
 gone n s (ends e t) p = absurd p
 
 module _ (sc : Scope) where
-  join_turns : (xs ys : List PlainStmt) (n m : ℕ) (vs : Vars) (s : State) → WhereGoing (Spun n s) (exec_all sc (stmts_of xs) vs s) → ((t : State) → WhereGoing (Spun m t) (exec_all sc (stmts_of ys) vs t)) →
-      WhereGoing (Spun (n + m) s) (exec_all sc (stmts_of (xs ++ ys)) vs s)
+  join_turns : (xs ys : List PlainStmt) (n m : ℕ) (vs : Vars) (s : State) → WhereGoing (Makes n s) (exec_all sc (stmts_of xs) vs s) → ((t : State) → WhereGoing (Makes m t) (exec_all sc (stmts_of ys) vs t)) →
+      WhereGoing (Makes (n + m) s) (exec_all sc (stmts_of (xs ++ ys)) vs s)
   join_turns xs ys n m vs s h g =
-      subst (WhereGoing (Spun (n + m) s)) (sym (exec_join sc xs ys vs s))
-      (going_then (Spun n s) (Spun (n + m) s) (exec_all sc (stmts_of xs) vs s) (λ u t. exec_all sc (stmts_of ys) vs t) h (λ u t k. spun_on n m s t (exec_all sc (stmts_of ys) vs t) k (g t)))
+      subst (WhereGoing (Makes (n + m) s)) (sym (exec_join sc xs ys vs s))
+      (going_then (Makes n s) (Makes (n + m) s) (exec_all sc (stmts_of xs) vs s) (λ u t. exec_all sc (stmts_of ys) vs t) h (λ u t k. spun_on n m s t (exec_all sc (stmts_of ys) vs t) k (g t)))
 
-  one_turns : (p : PlainStmt) (n : ℕ) (vs : Vars) (s : State) → WhereGoing (Spun n s) (exec sc p vs s) → WhereGoing (Spun n s) (exec_all sc (stmts_of (p ∷ [])) vs s)
-  one_turns p n vs s h = subst (WhereGoing (Spun n s)) (sym (exec_one sc p vs s)) h
+  one_turns : (p : PlainStmt) (n : ℕ) (vs : Vars) (s : State) → WhereGoing (Makes n s) (exec sc p vs s) → WhereGoing (Makes n s) (exec_all sc (stmts_of (p ∷ [])) vs s)
+  one_turns p n vs s h = subst (WhereGoing (Makes n s)) (sym (exec_one sc p vs s)) h
 
   -- assignments and checks make no turn
   abbrev IsAssign : PlainStmt → Type 0
@@ -150,10 +150,10 @@ module _ (sc : Scope) where
   assigns_join [] ys h g = g
   assigns_join (x ∷ xs) ys h g = (h.0, assigns_join xs ys h.1 g)
 
-  assigns_turns : (ss : List PlainStmt) → AreAssigns ss → (vs : Vars) (s : State) → WhereGoing (Spun 0 s) (exec_all sc (stmts_of ss) vs s)
+  assigns_turns : (ss : List PlainStmt) → AreAssigns ss → (vs : Vars) (s : State) → WhereGoing (Makes 0 s) (exec_all sc (stmts_of ss) vs s)
   assigns_turns [] h vs s = spun_none s
   assigns_turns (assign t op e ∷ ss) h vs s =
-      going_then (Spun 0 s) (Spun 0 s) (assigned sc t op e vs s) (λ u. exec_all sc (stmts_of ss) vs) (spun_steady (assigned sc t op e vs s) s (calm_assigned sc t op e vs s))
+      going_then (Makes 0 s) (Makes 0 s) (assigned sc t op e vs s) (λ u. exec_all sc (stmts_of ss) vs) (spun_steady (assigned sc t op e vs s) s (calm_assigned sc t op e vs s))
       (λ u w k. spun_on 0 0 s w (exec_all sc (stmts_of ss) vs w) k (assigns_turns ss h.1 vs w))
   assigns_turns (loop x lo rel hi body ∷ ss) h vs s = absurd h.0
   assigns_turns (choice ts first other ∷ ss) h vs s = absurd h.0
@@ -161,7 +161,7 @@ module _ (sc : Scope) where
   assigns_turns (begin ∷ ss) h vs s = absurd h.0
   assigns_turns (check x extent a ∷ ss) h vs s = checked (nat_lt (s.words x) (as_word (signed extent vs))) (assigns_turns ss h.1 vs s)
     where
-      checked : (b : Bool) → WhereGoing (Spun 0 s) (exec_all sc (stmts_of ss) vs s) → WhereGoing (Spun 0 s) (and_then ((if b then done else end_as (index a)) s) (λ u. exec_all sc (stmts_of ss) vs))
+      checked : (b : Bool) → WhereGoing (Makes 0 s) (exec_all sc (stmts_of ss) vs s) → WhereGoing (Makes 0 s) (and_then ((if b then done else end_as (index a)) s) (λ u. exec_all sc (stmts_of ss) vs))
       checked true k = k
       checked false k = tt
   assigns_turns (verdict ∷ ss) h vs s = absurd h.0
@@ -211,7 +211,7 @@ module _ (sc : Scope) (has : HasCounters sc.wides) (arrays : List Array) (number
   of_pass = turns_all whole params
 
   -- a pass at a place
-  piece_turns : (target : Target) (site : Option ℕ) (base : Vars) (s : State) → AllHaveNoCells target.at → IsPlace params base → insp target.array ≡ false → WhereGoing (Spun of_pass s) (exec_all sc (stmts_of (pass_text number whole target site)) base s)
+  piece_turns : (target : Target) (site : Option ℕ) (base : Vars) (s : State) → AllHaveNoCells target.at → IsPlace params base → insp target.array ≡ false → WhereGoing (Makes of_pass s) (exec_all sc (stmts_of (pass_text number whole target site)) base s)
   piece_turns target site base s free place plain =
       gone of_pass s (exec_all sc (stmts_of (pass_text number whole target site)) base s) (pass_turns sc has arrays number params base place own_params target free site whole s countable plain)
 
@@ -230,19 +230,19 @@ module _ (sc : Scope) (has : HasCounters sc.wides) (arrays : List Array) (number
         ap (λ i. site_piece number texts whole i (target_in qs j)) (sym e)
 
     abbrev Turns : ℕ → ℕ → List Tagged → State → Outcome (Unit {0}) → Type 0
-    Turns k n list s o = WhereGoing (Spun (n + of_pass * writes_in insp list) s) o
+    Turns k n list s o = WhereGoing (Makes (n + of_pass * writes_in insp list) s) o
 
     -- the piece of an assignment to a cell makes no turn where it takes its count from a table
-    cell_turns : (k : ℕ) (x : Word) (at : PlainExprs) (vs : Vars) (u : State) → AllHaveNoCells at → IsPlace params vs → WhereGoing (Spun (of_pass * cond (not (insp (number x))) 1 0) u) (exec_all sc (stmts_of (site_piece number texts whole k (cell x at))) vs u)
+    cell_turns : (k : ℕ) (x : Word) (at : PlainExprs) (vs : Vars) (u : State) → AllHaveNoCells at → IsPlace params vs → WhereGoing (Makes (of_pass * cond (not (insp (number x))) 1 0) u) (exec_all sc (stmts_of (site_piece number texts whole k (cell x at))) vs u)
     cell_turns k x at vs u free place = chosen (insp (number x)) refl
       where
         chosen : (b : Bool) → insp (number x) ≡ b →
-            WhereGoing (Spun (of_pass * cond (not b) 1 0) u) (exec_all sc (stmts_of (cond b (at_write (number x) (texts x)) (pass_text number whole (record { array = number x; at = at }) (Some k)))) vs u)
-        chosen true e = subst (λ n. WhereGoing (Spun n u) (exec_all sc (stmts_of (at_write (number x) (texts x))) vs u)) (none of_pass) (assigns_turns sc (at_write (number x) (texts x)) (tt, (tt, tt)) vs u)
+            WhereGoing (Makes (of_pass * cond (not b) 1 0) u) (exec_all sc (stmts_of (cond b (at_write (number x) (texts x)) (pass_text number whole (record { array = number x; at = at }) (Some k)))) vs u)
+        chosen true e = subst (λ n. WhereGoing (Makes n u) (exec_all sc (stmts_of (at_write (number x) (texts x))) vs u)) (none of_pass) (assigns_turns sc (at_write (number x) (texts x)) (tt, (tt, tt)) vs u)
           where
             none : (t : ℕ) → 0 ≡ t * 0
             none t = omega arith
-        chosen false e = subst (λ n. WhereGoing (Spun n u) (exec_all sc (stmts_of (pass_text number whole (record { array = number x; at = at }) (Some k))) vs u)) (once of_pass) (piece_turns (record { array = number x; at = at }) (Some k) vs u free place e)
+        chosen false e = subst (λ n. WhereGoing (Makes n u) (exec_all sc (stmts_of (pass_text number whole (record { array = number x; at = at }) (Some k))) vs u)) (once of_pass) (piece_turns (record { array = number x; at = at }) (Some k) vs u free place e)
           where
             once : (t : ℕ) → t ≡ t * 1
             once t = omega arith
@@ -254,7 +254,7 @@ module _ (sc : Scope) (has : HasCounters sc.wides) (arrays : List Array) (number
         let vs : Vars = loops ++ params in
         let v : PlainExpr = full (var x) op e in
         let w : writes_in insp (map (tag k vs) (all_reads arrays m number v vs ++ [])) ≡ 0 = two_write insp k vs (all_reads arrays m number v vs) [] (reads_write insp arrays m number k v vs vs) refl in
-        subst (λ n. WhereGoing (Spun n s) (exec_all sc (stmts_of (assigned_text number texts (pieces k) (var x) v)) vs s)) (none of_pass _ w)
+        subst (λ n. WhereGoing (Makes n s) (exec_all sc (stmts_of (assigned_text number texts (pieces k) (var x) v)) vs s)) (none of_pass _ w)
         (assigns_turns sc (assigned_text number texts (pieces k) (var x) v) (assigns_join sc (loads_text number texts v 0) (assign (var x) None (pure v 0) ∷ []) (loads_assign sc number texts v 0) (tt, tt)) vs s)
       where
         none : (t n : ℕ) → n ≡ 0 → 0 ≡ 0 + t * n
@@ -266,11 +266,11 @@ module _ (sc : Scope) (has : HasCounters sc.wides) (arrays : List Array) (number
         let w : writes_in insp (map (tag k vs) (all_reads arrays m number v vs ++ cell_access number x at vs true ∷ [])) ≡ cond (not (insp (number x))) 1 0 = one_write insp k vs (all_reads arrays m number v vs) (cell_access number x at vs true) refl (reads_write insp arrays m number k v vs vs) in
         let stores : List PlainStmt = assign (var result) None (pure v 0) ∷ assign (cell x at) None (var result) ∷ [] in
         let piece : pieces k ≡ site_piece number texts whole k (cell x at) = ap pieces (let e : k ≡ k + 0 = omega arith in e) ∙ stand 0 (omega arith) ∙ ap (λ i. site_piece number texts whole i (cell x at)) (let e : k + 0 ≡ k = omega arith in e) in
-        subst (λ n. WhereGoing (Spun n s) (exec_all sc (stmts_of (assigned_text number texts (pieces k) (cell x at) v)) vs s)) ((let z : 0 + (0 + (many + 0)) ≡ 0 + many = omega arith in z) ∙ ap (λ n. 0 + of_pass * n) (sym w))
+        subst (λ n. WhereGoing (Makes n s) (exec_all sc (stmts_of (assigned_text number texts (pieces k) (cell x at) v)) vs s)) ((let z : 0 + (0 + (many + 0)) ≡ 0 + many = omega arith in z) ∙ ap (λ n. 0 + of_pass * n) (sym w))
         (join_turns sc (loads_text number texts v 0) (stores ++ (pieces k ++ add_text (number x))) 0 (0 + (many + 0)) vs s (assigns_turns sc (loads_text number texts v 0) (loads_assign sc number texts v 0) vs s)
         (λ y. join_turns sc stores (pieces k ++ add_text (number x)) 0 (many + 0) vs y (assigns_turns sc stores (tt, (tt, tt)) vs y)
         (λ u. join_turns sc (pieces k) (add_text (number x)) many 0 vs u
-        (subst (λ p. WhereGoing (Spun many u) (exec_all sc (stmts_of p) vs u)) (sym piece) (cell_turns k x at vs u (all_affine_no_cells at vs t.affine) place))
+        (subst (λ p. WhereGoing (Makes many u) (exec_all sc (stmts_of p) vs u)) (sym piece) (cell_turns k x at vs u (all_affine_no_cells at vs t.affine) place))
         (λ y. assigns_turns sc (add_text (number x)) (tt, tt) vs y))))
     assign_turns (lit n) op e k loops s t place stand = absurd t
     assign_turns (un o a) op e k loops s t place stand = absurd t
@@ -293,7 +293,7 @@ module _ (sc : Scope) (has : HasCounters sc.wides) (arrays : List Array) (number
           let n' : ℤ → ℕ = λ v. turns_all body ((x, v) ∷ vs) in
           let list : ℤ → List Tagged = λ v. tagged_all arrays m number k body ((x, v) ∷ vs) in
           one_turns sc (loop x lo rel hi text) _ vs s
-          (subst (λ j. WhereGoing (Spun j s) (exec sc (loop x lo rel hi text) vs s)) (sum_split insp n' list of_pass (loop_values (signed lo vs) rel (signed hi vs)))
+          (subst (λ j. WhereGoing (Makes j s) (exec sc (loop x lo rel hi text) vs s)) (sum_split insp n' list of_pass (loop_values (signed lo vs) rel (signed hi vs)))
           (over_turns sc arrays number (λ v. λ t. and_then (turn t) (λ u. exec_all sc text ((x, v) ∷ vs))) (λ v. suc (n' v + of_pass * writes_in insp (list v)))
           (λ v. body_turn sc arrays number text ((x, v) ∷ vs) (n' v + of_pass * writes_in insp (list v)) (λ t. all_turned body k ((x, v) ∷ loops) t (h.3 v) (h.2.own_name, o) (h.2.fresh, n) stand))
           (loop_values (signed lo vs) rel (signed hi vs)) s))
@@ -308,8 +308,8 @@ module _ (sc : Scope) (has : HasCounters sc.wides) (arrays : List Array) (number
           let ps = targets_all first in
           let qs = targets_all other in
           one_turns sc (choice ts one two) _ vs s
-          (subst (λ o. WhereGoing (Spun (cond b (turns_all first vs) (turns_all other vs) + of_pass * writes_in insp (cond b xs ys)) s) (and_then o (λ b. cond b (exec_all sc one vs) (exec_all sc two vs)))) (sym (all_hold_is sc ts vs s (affine_tests ts vs h.0)))
-          (subst (λ j. WhereGoing (Spun j s) (cond b (exec_all sc one vs) (exec_all sc two vs) s)) (turns_if b (turns_all first vs) (turns_all other vs) (writes_in insp xs) (writes_in insp ys) of_pass ∙ ap (λ j. cond b (turns_all first vs) (turns_all other vs) + of_pass * j) (sym (writes_if insp b xs ys)))
+          (subst (λ o. WhereGoing (Makes (cond b (turns_all first vs) (turns_all other vs) + of_pass * writes_in insp (cond b xs ys)) s) (and_then o (λ b. cond b (exec_all sc one vs) (exec_all sc two vs)))) (sym (all_hold_is sc ts vs s (affine_tests ts vs h.0)))
+          (subst (λ j. WhereGoing (Makes j s) (cond b (exec_all sc one vs) (exec_all sc two vs) s)) (turns_if b (turns_all first vs) (turns_all other vs) (writes_in insp xs) (writes_in insp ys) of_pass ∙ ap (λ j. cond b (turns_all first vs) (turns_all other vs) + of_pass * j) (sym (writes_if insp b xs ys)))
           (chosen_turns sc arrays number b (turns_all first vs + of_pass * writes_in insp xs) (turns_all other vs + of_pass * writes_in insp ys) s (exec_all sc one vs) (exec_all sc two vs)
           (all_turned first k loops s h.1 o n (stand_left k (sites_all first) (sites_all other) ps qs l stand))
           (all_turned other (k + sites_all first) loops s h.2 o n (stand_right k (sites_all first) (sites_all other) ps qs l stand)))))
@@ -321,7 +321,7 @@ module _ (sc : Scope) (has : HasCounters sc.wides) (arrays : List Array) (number
 
       pub all_turned : (ps : PlainStmts) (k : ℕ) (loops : Vars) (s : State) → AreCountable arrays number ps (loops ++ params) → AreOwn loops → AreNested loops params → Stand k (sites_all ps) (targets_all ps) →
           Turns k (turns_all ps (loops ++ params)) (tagged_all arrays m number k ps (loops ++ params)) s (exec_all sc (stmts_of (instrument_all number texts pieces k ps)) (loops ++ params) s)
-      all_turned no_stmts k loops s h o n stand = subst (λ j. Spun j s s) (let e : 0 ≡ 0 + of_pass * 0 = omega arith in e) (spun_none s)
+      all_turned no_stmts k loops s h o n stand = subst (λ j. Makes j s s) (let e : 0 ≡ 0 + of_pass * 0 = omega arith in e) (spun_none s)
       all_turned (more_stmts p ps) k loops s h o n stand =
           let vs : Vars = loops ++ params in
           let l = targets_many p in
@@ -329,7 +329,7 @@ module _ (sc : Scope) (has : HasCounters sc.wides) (arrays : List Array) (number
           let ys : List Tagged = tagged_all arrays m number (k + sites p) ps vs in
           let one = targets p in
           let two = targets_all ps in
-          subst (λ j. WhereGoing (Spun j s) (exec_all sc (stmts_of (instrument number texts pieces k p ++ instrument_all number texts pieces (k + sites p) ps)) vs s))
+          subst (λ j. WhereGoing (Makes j s) (exec_all sc (stmts_of (instrument number texts pieces k p ++ instrument_all number texts pieces (k + sites p) ps)) vs s))
           (both (turns p vs) (turns_all ps vs) of_pass (writes_in insp xs) (writes_in insp ys) ∙ ap (λ j. (turns p vs + turns_all ps vs) + of_pass * j) (sym (writes_join insp xs ys)))
           (join_turns sc (instrument number texts pieces k p) (instrument_all number texts pieces (k + sites p) ps) (turns p vs + of_pass * writes_in insp xs) (turns_all ps vs + of_pass * writes_in insp ys) vs s
           (one_turned p k loops s h.0 o n (stand_left k (sites p) (sites_all ps) one two l stand))
@@ -340,9 +340,9 @@ module _ (sc : Scope) (has : HasCounters sc.wides) (arrays : List Array) (number
 
   -- ---- the prologue
 
-  cells_turned : (body : List PlainStmt) (es : PlainExprs) (zs : List ℤ) (d : ℕ) (vs : Vars) (t : ℕ) → Measures es vs zs → ((cs : List ℤ) (s : State) → WhereGoing (Spun t s) (exec_all sc (stmts_of body) (coordinate_vars d cs vs) s)) →
-      (s : State) → WhereGoing (Spun (cell_walk zs + cell_count zs * t) s) (exec_all sc (stmts_of (cell_loops d es body)) vs s)
-  cells_turned body no_exprs [] d vs t m h s = subst (λ j. WhereGoing (Spun j s) (exec_all sc (stmts_of body) vs s)) (let e : t ≡ 0 + 1 * t = omega arith in e) (h [] s)
+  cells_turned : (body : List PlainStmt) (es : PlainExprs) (zs : List ℤ) (d : ℕ) (vs : Vars) (t : ℕ) → Measures es vs zs → ((cs : List ℤ) (s : State) → WhereGoing (Makes t s) (exec_all sc (stmts_of body) (coordinate_vars d cs vs) s)) →
+      (s : State) → WhereGoing (Makes (cell_walk zs + cell_count zs * t) s) (exec_all sc (stmts_of (cell_loops d es body)) vs s)
+  cells_turned body no_exprs [] d vs t m h s = subst (λ j. WhereGoing (Makes j s) (exec_all sc (stmts_of body) vs s)) (let e : t ≡ 0 + 1 * t = omega arith in e) (h [] s)
   cells_turned body no_exprs (z ∷ zs) d vs t m h s = absurd m
   cells_turned body (more_exprs e es) [] d vs t m h s = absurd m
   cells_turned body (more_exprs e es) (z ∷ zs) d vs t m h s =
@@ -350,8 +350,8 @@ module _ (sc : Scope) (has : HasCounters sc.wides) (arrays : List Array) (number
       let n : ℕ = cell_walk zs + cell_count zs * t in
       let f : ℤ → Run (Unit {0}) = λ v. λ u. and_then (turn u) (λ b. exec_all sc inner ((coordinate d, v) ∷ vs)) in
       one_turns sc (loop (coordinate d) (lit 0) Lt e inner) _ vs s
-      (subst (λ vals. WhereGoing (Spun (cell_walk (z ∷ zs) + cell_count (z ∷ zs) * t) s) (over f vals s)) (sym (values_are e vs z m.1))
-      (subst (λ j. WhereGoing (Spun j s) (over f (from_on (pos 0) (size_of z)) s)) (sum_same n (pos 0) (size_of z) ∙ walked (size_of z) (cell_walk zs) (cell_count zs) t)
+      (subst (λ vals. WhereGoing (Makes (cell_walk (z ∷ zs) + cell_count (z ∷ zs) * t) s) (over f vals s)) (sym (values_are e vs z m.1))
+      (subst (λ j. WhereGoing (Makes j s) (over f (from_on (pos 0) (size_of z)) s)) (sum_same n (pos 0) (size_of z) ∙ walked (size_of z) (cell_walk zs) (cell_count zs) t)
       (over_turns sc arrays number f (λ v. suc n)
       (λ v. body_turn sc arrays number inner ((coordinate d, v) ∷ vs) n (λ u. cells_turned body es zs (suc d) ((coordinate d, v) ∷ vs) t (measures_more es zs vs (coordinate d) v (coordinate_not_own d) m.2) (λ cs. h (v ∷ cs)) u))
       (from_on (pos 0) (size_of z)) s)))
@@ -363,17 +363,17 @@ module _ (sc : Scope) (has : HasCounters sc.wides) (arrays : List Array) (number
   abbrev of_cell : Bool → ℕ
   of_cell b = cond b 0 of_pass
 
-  initial_turns : (a : ℕ) (es : PlainExprs) (cs : List ℤ) (u : State) → WhereGoing (Spun (of_cell (insp a)) u) (exec_all sc (stmts_of (initial_piece number whole a es)) (coordinate_vars 0 cs params) u)
+  initial_turns : (a : ℕ) (es : PlainExprs) (cs : List ℤ) (u : State) → WhereGoing (Makes (of_cell (insp a)) u) (exec_all sc (stmts_of (initial_piece number whole a es)) (coordinate_vars 0 cs params) u)
   initial_turns a es cs u = chosen (insp a) refl
     where
-      chosen : (b : Bool) → insp a ≡ b → WhereGoing (Spun (of_cell b) u) (exec_all sc (stmts_of (cond b (initial a es) (pass_text number whole (record { array = a; at = coordinates_from 0 es }) None))) (coordinate_vars 0 cs params) u)
+      chosen : (b : Bool) → insp a ≡ b → WhereGoing (Makes (of_cell b) u) (exec_all sc (stmts_of (cond b (initial a es) (pass_text number whole (record { array = a; at = coordinates_from 0 es }) None))) (coordinate_vars 0 cs params) u)
       chosen true e = assigns_turns sc (initial a es) (tt, tt) (coordinate_vars 0 cs params) u
       chosen false e = piece_turns (record { array = a; at = coordinates_from 0 es }) None (coordinate_vars 0 cs params) u (coordinates_free arrays number whole params countable 0 es) (place_cell cs params own_params) e
 
-  array_turned : (a : ℕ) (x : Word) (es : PlainExprs) (zs : List ℤ) (s : State) → Measures es params zs → WhereGoing (Spun (cell_walk zs + cell_count zs * of_cell (insp a)) s) (exec_all sc (stmts_of (array_text a x es (initial_piece number whole a es))) params s)
+  array_turned : (a : ℕ) (x : Word) (es : PlainExprs) (zs : List ℤ) (s : State) → Measures es params zs → WhereGoing (Makes (cell_walk zs + cell_count zs * of_cell (insp a)) s) (exec_all sc (stmts_of (array_text a x es (initial_piece number whole a es))) params s)
   array_turned a x es zs s m =
       cells_turned (cell_text a x es (initial_piece number whole a es)) es zs 0 params (of_cell (insp a)) m
-      (λ cs t. subst (λ j. WhereGoing (Spun j t) (exec_all sc (stmts_of (cell_text a x es (initial_piece number whole a es))) (coordinate_vars 0 cs params) t)) (let e : 0 + (of_cell (insp a) + 0) ≡ of_cell (insp a) = omega arith in e)
+      (λ cs t. subst (λ j. WhereGoing (Makes j t) (exec_all sc (stmts_of (cell_text a x es (initial_piece number whole a es))) (coordinate_vars 0 cs params) t)) (let e : 0 + (of_cell (insp a) + 0) ≡ of_cell (insp a) = omega arith in e)
       (join_turns sc (assign (var (register 0)) None (cell x (coordinates_from 0 es)) ∷ []) (initial_piece number whole a es ++ add_cell a) 0 (of_cell (insp a) + 0) (coordinate_vars 0 cs params) t
       (assigns_turns sc (assign (var (register 0)) None (cell x (coordinates_from 0 es)) ∷ []) (tt, tt) (coordinate_vars 0 cs params) t)
       (λ u. join_turns sc (initial_piece number whole a es) (add_cell a) (of_cell (insp a)) 0 (coordinate_vars 0 cs params) u (initial_turns a es cs u)
@@ -384,13 +384,13 @@ module _ (sc : Scope) (has : HasCounters sc.wides) (arrays : List Array) (number
   walked_cells false c = refl
 
   pub prologue_turned : (a : ℕ) (ps : List PlainParam) (s : State) → AreMeasured params ps →
-      WhereGoing (Spun (walks_from insp of_pass a (arrays_of params ps)) s) (exec_all sc (stmts_of (prologue_text (initial_piece number whole) a (arrays_with_extents ps))) params s)
+      WhereGoing (Makes (walks_from insp of_pass a (arrays_of params ps)) s) (exec_all sc (stmts_of (prologue_text (initial_piece number whole) a (arrays_with_extents ps))) params s)
   prologue_turned a [] s m = spun_none s
   prologue_turned a (int_param x ∷ ps) s m = prologue_turned a ps s m
   prologue_turned a (array_param x constant es ∷ ps) s m =
       let zs : List ℤ = extents_of params es in
       join_turns sc (array_text a x es (initial_piece number whole a es)) (prologue_text (initial_piece number whole) (suc a) (arrays_with_extents ps)) (cell_walk zs + cond (insp a) 0 (cell_count zs * of_pass)) (walks_from insp of_pass (suc a) (arrays_of params ps)) params s
-      (subst (λ j. WhereGoing (Spun (cell_walk zs + j) s) (exec_all sc (stmts_of (array_text a x es (initial_piece number whole a es))) params s)) (walked_cells (insp a) (cell_count zs)) (array_turned a x es zs s m.1))
+      (subst (λ j. WhereGoing (Makes (cell_walk zs + j) s) (exec_all sc (stmts_of (array_text a x es (initial_piece number whole a es))) params s)) (walked_cells (insp a) (cell_count zs)) (array_turned a x es zs s m.1))
       (λ t. prologue_turned (suc a) ps t m.3)
 
 -- ---- as the laws say it
@@ -406,12 +406,12 @@ bodies_turn sc arrays m number texts body params has own countable s =
     let list : List Tagged = tagged_all arrays m number 0 body params in
     let pieces : ℕ → List PlainStmt = piece_at (site_pieces_all number texts body 0 body) in
     subst (λ k. WhereGoing (Turned (n + n * k) s) (exec_all sc (stmts_of (instrument_all number texts pieces 0 body)) params s)) (counted_is insp list)
-    (going_weaker (Spun (n + n * writes_in insp list) s) (Turned (n + n * writes_in insp list) s) (exec_all sc (stmts_of (instrument_all number texts pieces 0 body)) params s) (λ t k. k.turned)
+    (going_weaker (Makes (n + n * writes_in insp list) s) (Turned (n + n * writes_in insp list) s) (exec_all sc (stmts_of (instrument_all number texts pieces 0 body)) params s) (λ t k. k.turned)
     (all_turned sc has arrays number params own body countable m texts pieces body 0 [] s countable tt tt
     (λ j l. ap pieces (let e : 0 + j ≡ j = omega arith in e) ∙ piece_of number texts body j ∙ ap (λ i. site_piece number texts body i (target_in (targets_all body) j)) (let e : j ≡ 0 + j = omega arith in e))))
 
 pub prologues_turn : ProloguesTurn
 prologues_turn sc arrays number body params ps has own countable measured s =
     let k : ℕ = walks_from (λ a. inspects_all number a body) (turns_all body params) 0 (arrays_of params ps) in
-    going_weaker (Spun k s) (Turned k s) (exec_all sc (stmts_of (prologue_text (initial_piece number body) 0 (arrays_with_extents ps))) params s) (λ t k. k.turned)
+    going_weaker (Makes k s) (Turned k s) (exec_all sc (stmts_of (prologue_text (initial_piece number body) 0 (arrays_with_extents ps))) params s) (λ t k. k.turned)
     (prologue_turned sc has arrays number params own body countable 0 ps s measured)

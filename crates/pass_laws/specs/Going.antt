@@ -35,3 +35,8 @@ pub record Leaves (s t : State) : Type 0 where
 pub record Turned (n : ℕ) (s t : State) : Type 0 where
   pub body : t.body_turns ≡ s.body_turns + (if s.begun then n else 0)
   pub prologue : t.prologue_turns ≡ s.prologue_turns + (if s.begun then 0 else n)
+
+-- so many turns, and the text has begun as before
+pub record Makes (n : ℕ) (s t : State) : Type 0 where
+  pub begun : t.begun ≡ s.begun
+  pub turned : Turned n s t
