@@ -1,28 +1,18 @@
 //! Prints the instrumented text of a source, and runs a source, its instrumented unit or a printed
-//! text on a data file, with a flip of one bit or without. `balance` is the top call, over any shelf and sinks; `main` gives it the
-//! arguments, the files of the system and the standard streams.
+//! text on a data file, with a flip of one bit or without. `main` gives the top call the arguments,
+//! the files of the system and the standard streams.
 #![tactic(auto)]
 
 ghost use Rattle.std.specs.Prelude.{◌≡◌, IfOk, drop};
 ghost use Rattle.std.specs.Vec.Iter.{into_iter_items};
 
-mod call;
-mod checking;
-mod demos;
-mod faults;
-mod inputs;
-mod judging;
-mod runnable;
-mod runs;
-mod stages;
-
-use call::balance;
 use command_line::{Status, no_memory};
 use edge::{FileShelf, StdSink};
 use std::alloc::{AllocError, Global};
 use std::env;
 use std::io::ErrorKind;
 use std::process::ExitCode;
+use top_call::balance;
 
 // The words after the program's name.
 fn words_of(alloc: Global, mut args: env::Args) -> Result<Vec<String>, AllocError>

@@ -2,7 +2,7 @@
 
 use crate::texts::{judged, source_judged};
 use c_tree::{Counted, Refusal};
-use parse_tests::texts::{joined, repeated};
+use sample_texts::texts::{joined, repeated};
 use std::alloc::Global;
 
 const EIGHT_RANGES: &[u8] = b"#pragma balance range a 1 9

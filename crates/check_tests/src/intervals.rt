@@ -3,7 +3,7 @@
 
 use crate::texts::judged;
 use c_tree::Refusal;
-use parse_tests::texts::joined;
+use sample_texts::texts::joined;
 use std::alloc::Global;
 
 // `1048576 * (p - p + p - p)` lies in -2^62 to 2^62, and `1048576 * (q + r + t + u)` is 2^62.

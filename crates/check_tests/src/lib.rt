@@ -32,4 +32,5 @@ mod reserved_names;
 mod small_terms;
 #[cfg(test)]
 mod targets;
-pub mod texts;
+#[cfg(test)]
+mod texts;

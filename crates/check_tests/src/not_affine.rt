@@ -2,7 +2,7 @@
 
 use crate::texts::{judged, source_judged};
 use c_tree::Refusal;
-use parse_tests::texts::joined;
+use sample_texts::texts::joined;
 use std::alloc::Global;
 
 /// The extents of an array that aren't all affine.

@@ -2,7 +2,7 @@
 
 use crate::texts::{printed_judged, with_preamble_judged};
 use c_tree::Refusal;
-use parse_tests::texts::{GUARDED, joined};
+use sample_texts::texts::{GUARDED, joined};
 use std::alloc::Global;
 
 /// The shift, instrumented, up to the name to which what is read is added.

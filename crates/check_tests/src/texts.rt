@@ -7,7 +7,7 @@ ghost use Rattle.c_tree.specs.Trees.{unit as unit_in};
 use c_parser::parse;
 use c_tree::{Refusal, Unit, preamble};
 use kernel_check::{judge_printed, judge_source};
-use parse_tests::texts::joined;
+use sample_texts::texts::joined;
 use std::alloc::Global;
 use tree_texts::texts_have_trees;
 

@@ -2,7 +2,7 @@
 
 use crate::made::instrumented;
 use c_tree::Unit;
-use run_tests::texts::{CUBE, GATHER, SHIFT};
+use sample_runs::texts::{CUBE, GATHER, SHIFT};
 
 fn has_words(made: &Unit, wanted: &[(&str, u64)]) -> bool {
     if made.words.len() != wanted.len() {

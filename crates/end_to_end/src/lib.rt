@@ -4,10 +4,12 @@
 
 #[cfg(test)]
 mod copies;
-pub mod gathers;
+#[cfg(test)]
+mod gathers;
 #[cfg(test)]
 mod instruments;
-pub mod made;
+#[cfg(test)]
+mod made;
 #[cfg(test)]
 mod prints;
 #[cfg(test)]

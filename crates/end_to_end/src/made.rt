@@ -9,7 +9,7 @@ ghost use Rattle.kernel_check.specs.Kernels.{IsKernelOf};
 use c_tree::{Ended, Refusal, Unit};
 use kernel_check::Kernel;
 use rewrite::{Options, instrument};
-use run_tests::runs::{ended, inputs_of, kernel_of};
+use sample_runs::runs::{ended, inputs_of, kernel_of};
 use std::alloc::Global;
 
 fn made_of(alloc: Global, kernel: &Kernel) -> Result<Unit, Refusal>

@@ -5,7 +5,7 @@ use crate::made::instrumented;
 use c_parser::parse;
 use c_printer::print;
 use c_tree::Refusal;
-use run_tests::texts::GATHER;
+use sample_runs::texts::GATHER;
 use std::alloc::Global;
 use std::test::Fail;
 

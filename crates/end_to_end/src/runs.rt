@@ -8,8 +8,8 @@
 use crate::gathers::{CHAIN, COLUMN, PAIRS};
 use crate::made::tried;
 use c_tree::Refusal;
-use run_tests::ends::{Found, has_cells, has_verdict};
-use run_tests::texts::{CUBE, GATHER, JACOBI, MIX, PRODUCT, SHIFT, TOO_FAR, TRIANGLE, TWICE};
+use sample_runs::ends::{End, Found, has_cells, has_verdict, is_end};
+use sample_runs::texts::{CUBE, GATHER, JACOBI, MIX, PRODUCT, SHIFT, TOO_FAR, TRIANGLE, TWICE};
 use std::alloc::Global;
 use std::test::Fail;
 
@@ -185,15 +185,18 @@ const ROWS: [Row; 14] = [
 /// Whether the instrumented unit is balanced and ends as the row says.
 fn is_right(alloc: Global, row: &Row) -> Result<bool, Refusal> {
     match tried(alloc, row.source.as_bytes(), row.data.as_bytes())? {
-        Some(ended) => Ok(
-            has_verdict(&ended, Found::Balanced)
-                && has_cells(&ended, row.cells)
-                && ended.totals.as_slice() == row.totals
-                && ended.tables.as_slice() == row.tables
-                && ended.accesses == row.accesses
-                && ended.prologue_turns == row.prologue_turns
-                && ended.body_turns == row.body_turns,
-        ),
+        Some(ended) => Ok(is_end(
+            &ended,
+            &End {
+                verdict: Found::Balanced,
+                cells: row.cells,
+                totals: row.totals,
+                tables: row.tables,
+                accesses: row.accesses,
+                prologue_turns: row.prologue_turns,
+                body_turns: row.body_turns,
+            },
+        )),
         None => Ok(false),
     }
 }

@@ -1,6 +1,6 @@
 //! The run of the instrumented unit of a source under a flip, of texts.
 
-ghost use Rattle.std.specs.Prelude.{IfOk, IfSome};
+ghost use Rattle.std.specs.Prelude.{IfSome};
 ghost use Rattle.c_tree.specs.Inputs.{Fit};
 ghost use Rattle.c_tree.specs.Trees.{unit as tree};
 ghost use Rattle.data_file.specs.Checks.{Fits};
@@ -9,27 +9,12 @@ ghost use Rattle.c_tree.specs.Flips.{fault_in, IsFaultFor};
 ghost use Rattle.kernel_check.specs.Kernels.{IsKernelOf};
 
 use c_tree::{Ended, Flip, Inputs, OutOfMemory, Refusal};
-use data_file::{DataRefusal, fits_as_meant, read_data};
 use fault_plan::{flips_fit_units, read_flip};
 use interp::run;
 use kernel_check::Kernel;
 use rewrite::{Options, instrument};
-use run_tests::runs::kernel_of;
+use sample_runs::runs::{inputs_of, kernel_of};
 use std::alloc::Global;
-
-/// The inputs that a data text means by the head of a source, where it means some.
-fn given(alloc: Global, kernel: &Kernel, data: &[u8]) -> Result<Option<Inputs>, OutOfMemory>
-    requires { IsKernelOf (tree kernel.now.unit) kernel.now }
-    ensures fits { IfOk result (λ given. IfSome given (λ i. Fit (tree kernel.now.unit) (inputs_in i))) }
-    ensures by_frame { IfOk result (λ given. IfSome given (λ i. Fits kernel.now.frame i)) }
-{
-    fits_as_meant();
-    match read_data(alloc, kernel.frame(), data) {
-        Ok(inputs) => Ok(Some(inputs)),
-        Err(DataRefusal::OutOfMemory) => Err(OutOfMemory),
-        Err(_) => Ok(None),
-    }
-}
 
 /// The flip that a text means on these inputs, where it means one.
 fn fault_of(kernel: &Kernel, i: &Inputs, text: &[u8]) -> Option<Flip>
@@ -72,7 +57,7 @@ pub fn flipped(
     flip: &[u8],
 ) -> Result<Option<Ended>, Refusal> {
     let kernel = kernel_of(alloc, source)?;
-    match given(alloc, &kernel, data)? {
+    match inputs_of(alloc, &kernel, data)? {
         Some(i) => match fault_of(&kernel, &i, flip) {
             Some(fault) => Ok(struck(alloc, &kernel, &i, &fault)?),
             None => Ok(None),

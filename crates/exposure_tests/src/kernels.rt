@@ -2,7 +2,7 @@
 
 use crate::flipped::flipped;
 use c_tree::{Refusal, Verdict};
-use run_tests::texts::{GATHER, SHIFT, TWICE};
+use sample_runs::texts::{GATHER, SHIFT, TWICE};
 use std::alloc::Global;
 use std::test::Fail;
 

@@ -2,6 +2,7 @@
 //! the accesses of the source written by hand.
 #![tactic(auto)]
 
-pub mod flipped;
+#[cfg(test)]
+mod flipped;
 #[cfg(test)]
 mod kernels;

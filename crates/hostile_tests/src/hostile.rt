@@ -4,7 +4,7 @@
 
 use c_parser::parse;
 use c_tree::{Refusal, preamble};
-use parse_tests::texts::{Found, found_in, joined, nested, repeated};
+use sample_texts::texts::{Found, found_in, joined, nested, repeated};
 use std::alloc::{AllocError, Global};
 use std::test::Fail;
 

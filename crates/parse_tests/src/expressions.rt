@@ -1,8 +1,8 @@
 //! Right sides of assignments, each with its tree, and texts that are none.
 
-use crate::shown::shown_expression;
-use crate::texts::{Found, joined, kind_of, source};
 use c_tree::{Refusal, Stmt};
+use sample_texts::shown::shown_expression;
+use sample_texts::texts::{Found, joined, kind_of, source};
 use std::alloc::Global;
 use std::test::Fail;
 

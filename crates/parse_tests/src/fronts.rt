@@ -1,7 +1,7 @@
 //! What is left of a text when its end is cut off.
 
-use crate::texts::{Found, GATHER, GUARDED, found_in, joined};
 use c_tree::preamble;
+use sample_texts::texts::{Found, GATHER, GUARDED, found_in, joined};
 use std::alloc::Global;
 use std::test::Fail;
 

@@ -1,6 +1,6 @@
 //! What stands before a function's statements: ranges, parameters, declarations.
 
-use crate::texts::{Found, found_in, is_unit};
+use sample_texts::texts::{Found, found_in, is_unit};
 
 const HEADS: [(&str, &str); 5] = [
     (

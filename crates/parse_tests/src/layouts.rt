@@ -1,8 +1,10 @@
 //! Units that are spelled in many ways: blanks, comments, skipped lines, parentheses and braces.
 
-use crate::texts::{Found, GATHER_UNIT, GUARDED, SHIFT, SHIFT_UNIT, found_in, is_unit, joined};
 use c_parser::parse;
 use c_tree::{Refusal, preamble};
+use sample_texts::texts::{
+    Found, GATHER_UNIT, GUARDED, SHIFT, SHIFT_UNIT, found_in, is_unit, joined,
+};
 use std::alloc::{AllocError, Global};
 use std::test::Fail;
 

@@ -17,9 +17,7 @@ mod limits;
 mod places;
 #[cfg(test)]
 mod printed_texts;
-mod shown;
 #[cfg(test)]
 mod statements;
 #[cfg(test)]
 mod sums;
-pub mod texts;

@@ -1,11 +1,11 @@
 //! Texts at the limits of heights, words, literals and lengths, and one beyond.
 
-use crate::texts::{
+use c_parser::parse;
+use c_tree::{Refusal, preamble};
+use sample_texts::texts::{
     Found, SHIFT, SHIFT_UNIT, VERDICT, found_in, is_unit, joined, kind_of, nested, printed,
     repeated, source,
 };
-use c_parser::parse;
-use c_tree::{Refusal, preamble};
 use std::alloc::{AllocError, Global};
 use std::test::Fail;
 

@@ -1,8 +1,8 @@
 //! Printed texts: the forms that sources don't have.
 
-use crate::shown::shown;
-use crate::texts::{Found, GUARDED, VERDICT, found_in, is_unit, joined, kind_of, printed};
 use c_tree::preamble;
+use sample_texts::shown::shown;
+use sample_texts::texts::{Found, GUARDED, VERDICT, found_in, is_unit, joined, kind_of, printed};
 use std::test::Fail;
 
 const GUARDED_UNIT: &[u8] = b"bal_fn_shift (version 1) (range n 1 1000) (int n) (array A[n]) \

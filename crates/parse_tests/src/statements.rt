@@ -1,8 +1,8 @@
 //! Bodies of sources, each with its trees, and texts that are none.
 
-use crate::shown::shown;
-use crate::texts::{Found, kind_of, source};
 use c_tree::Refusal;
+use sample_texts::shown::shown;
+use sample_texts::texts::{Found, kind_of, source};
 use std::alloc::Global;
 use std::test::Fail;
 

@@ -1,9 +1,9 @@
 //! Loops over one array with other bounds, subscripts and values, and long sums.
 
-use crate::shown::shown;
-use crate::texts::{joined, nested};
 use c_parser::parse;
 use c_tree::Refusal;
+use sample_texts::shown::shown;
+use sample_texts::texts::{joined, nested};
 use std::alloc::Global;
 use std::test::Fail;
 

@@ -4,7 +4,7 @@
 use c_parser::parse;
 use c_printer::print;
 use c_tree::{Refusal, preamble};
-use parse_tests::texts::joined;
+use sample_texts::texts::joined;
 use std::alloc::Global;
 use std::test::Fail;
 

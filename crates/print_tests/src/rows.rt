@@ -3,7 +3,7 @@
 use c_parser::parse;
 use c_printer::print;
 use c_tree::{Refusal, preamble};
-use parse_tests::texts::{GUARDED, joined};
+use sample_texts::texts::{GUARDED, joined};
 use std::alloc::{AllocError, Global};
 use std::test::Fail;
 

@@ -1,8 +1,8 @@
 //! A flip is reported exactly where the next access of its cell is a read, in index arrays too.
 
 use crate::struck::printed_struck;
-use crate::texts::PRINTED_GATHER;
 use c_tree::{Ended, Verdict};
+use sample_runs::texts::PRINTED_GATHER;
 use std::alloc::Global;
 use std::test::Fail;
 

@@ -1,10 +1,8 @@
 //! Runs of sources that end plain.
 
-use crate::ends::{Found, has_cells, has_verdict};
-use crate::runs::ran;
-use crate::texts::{GATHER, JACOBI, MIX, PRODUCT, SHIFT, TRIANGLE, TWICE};
-use c_tree::Refusal;
-use std::alloc::Global;
+use crate::trials::source_ends;
+use sample_runs::ends::{End, PLAIN};
+use sample_runs::texts::{GATHER, JACOBI, MIX, PRODUCT, SHIFT, TRIANGLE, TWICE};
 use std::test::Fail;
 
 /// A source, a data text, the cells that it leaves, and how many accesses and turns it makes.
@@ -86,26 +84,22 @@ const ROWS: [Row; 9] = [
     },
 ];
 
-/// Whether the source ends plain as the row says.
-fn is_right(alloc: Global, row: &Row) -> Result<bool, Refusal> {
-    match ran(alloc, row.source.as_bytes(), row.data.as_bytes())? {
-        Some(ended) => Ok(
-            has_verdict(&ended, Found::Plain)
-                && has_cells(&ended, row.cells)
-                && ended.totals.as_slice().is_empty()
-                && ended.tables.is_empty()
-                && ended.accesses == row.accesses
-                && ended.prologue_turns == 0
-                && ended.body_turns == row.turns,
-        ),
-        None => Ok(false),
-    }
-}
-
 #[test]
 fn sources_end_as_their_statements_say(rt: HostRuntime) -> Result<(), Fail> {
     for row in &ROWS {
-        assert!(rt; is_right(rt.alloc(), row)?, "{}{}", row.source, row.data);
+        let wanted = End {
+            cells: row.cells,
+            accesses: row.accesses,
+            body_turns: row.turns,
+            ..PLAIN
+        };
+        let (source, data) = (row.source.as_bytes(), row.data.as_bytes());
+        assert!(rt;
+            source_ends(rt.alloc(), source, data, &wanted)?,
+            "{}{}",
+            row.source,
+            row.data
+        );
     }
     Ok(())
 }

@@ -1,24 +1,21 @@
 //! Runs of sources with each form of statement and each operator.
 
-use crate::ends::{Found, has_cells, has_verdict};
-use crate::runs::ran;
-use crate::texts::CUBE;
+use crate::trials::source_ends;
+use sample_runs::ends::{End, PLAIN};
+use sample_runs::texts::CUBE;
 use std::test::Fail;
 
 /// The first branch is taken at (0, 1) and (0, 2). Elsewhere s grows by i + j: to 3, 4, 6 and 9.
 #[test]
 fn statements_of_each_form(rt: HostRuntime) -> Result<(), Fail> {
     let data = b"n = 2\nA = 1 2 3 4 5 6 7 8 9 10 11 12\nB = 1 2 3\n";
-    let ended = ran(rt.alloc(), CUBE.as_bytes(), data)?.ok_or("taken")?;
-    assert!(rt; has_verdict(&ended, Found::Plain));
-    assert!(rt;
-        has_cells(
-            &ended,
-            &[&[1, 3, 6, 4, 8, 6, 7, 4, 9, 6, 11, 9], &[9, 14, 9]]
-        )
-    );
-    assert_eq!(rt; ended.accesses, 13);
-    assert_eq!(rt; ended.body_turns, 8);
+    let wanted = End {
+        cells: &[&[1, 3, 6, 4, 8, 6, 7, 4, 9, 6, 11, 9], &[9, 14, 9]],
+        accesses: 13,
+        body_turns: 8,
+        ..PLAIN
+    };
+    assert!(rt; source_ends(rt.alloc(), CUBE.as_bytes(), data, &wanted)?);
     Ok(())
 }
 
@@ -40,28 +37,32 @@ const OPERATORS: &[u8] = b"void ops(uint64_t A[13]) {
 }
 ";
 
+/// What the operators give.
+const RESULTS: &[u64] = &[
+    18,
+    18446744073709551614,
+    169,
+    2,
+    3,
+    4,
+    15,
+    11,
+    52,
+    3,
+    27,
+    18446744073709551601,
+    18446744073709551615,
+];
+
 #[test]
 fn operators_are_modulo_2_to_the_64(rt: HostRuntime) -> Result<(), Fail> {
     let data = b"A = 0 0 0 0 0 0 0 0 0 0 0 0 0\n";
-    let ended = ran(rt.alloc(), OPERATORS, data)?.ok_or("taken")?;
-    let wanted = [
-        18,
-        18446744073709551614,
-        169,
-        2,
-        3,
-        4,
-        15,
-        11,
-        52,
-        3,
-        27,
-        18446744073709551601,
-        18446744073709551615,
-    ];
-    assert!(rt; has_cells(&ended, &[&wanted]));
-    assert_eq!(rt; ended.accesses, 14);
-    assert_eq!(rt; ended.body_turns, 0);
+    let wanted = End {
+        cells: &[RESULTS],
+        accesses: 14,
+        ..PLAIN
+    };
+    assert!(rt; source_ends(rt.alloc(), OPERATORS, data, &wanted)?);
     Ok(())
 }
 
@@ -77,15 +78,12 @@ void pick(int64_t n, const uint64_t P[n], const uint64_t X[2][n], uint64_t Y[n])
 #[test]
 fn subscripts_may_be_words(rt: HostRuntime) -> Result<(), Fail> {
     let data = b"n = 3\nP = 1 0 2\nX = 10 20 30 40 50 60\nY = 1 2 3\n";
-    let ended = ran(rt.alloc(), PICK, data)?.ok_or("taken")?;
-    assert!(rt; has_verdict(&ended, Found::Plain));
-    assert!(rt;
-        has_cells(
-            &ended,
-            &[&[1, 0, 2], &[10, 20, 30, 40, 50, 60], &[51, 22, 3]]
-        )
-    );
-    assert_eq!(rt; ended.accesses, 10);
-    assert_eq!(rt; ended.body_turns, 3);
+    let wanted = End {
+        cells: &[&[1, 0, 2], &[10, 20, 30, 40, 50, 60], &[51, 22, 3]],
+        accesses: 10,
+        body_turns: 3,
+        ..PLAIN
+    };
+    assert!(rt; source_ends(rt.alloc(), PICK, data, &wanted)?);
     Ok(())
 }

@@ -1,7 +1,6 @@
 //! Tests of runs, of sources and of printed texts written by hand, whose ends were worked out by hand.
 #![tactic(auto)]
 
-pub mod ends;
 #[cfg(test)]
 mod exposures;
 #[cfg(test)]
@@ -12,11 +11,13 @@ mod kernels;
 mod language;
 #[cfg(test)]
 mod outside;
-pub mod printed_runs;
+#[cfg(test)]
+mod printed_runs;
 #[cfg(test)]
 mod printed_texts;
-pub mod runs;
-pub mod struck;
+#[cfg(test)]
+mod struck;
 #[cfg(test)]
 mod tables;
-pub mod texts;
+#[cfg(test)]
+mod trials;

@@ -8,11 +8,11 @@ ghost use Rattle.data_file.specs.Checks.{Fits};
 ghost use Rattle.interp.specs.Finished.{inputs_in};
 ghost use Rattle.kernel_check.specs.Kernels.{IsPrintedOf};
 
-use crate::runs::ended;
 use c_parser::parse;
 use c_tree::{Ended, Inputs, OutOfMemory, Refusal, Unit, preamble};
 use data_file::{DataRefusal, fits_as_meant, read_data};
 use kernel_check::{Printed, check_printed};
+use sample_runs::runs::ended;
 use std::alloc::Global;
 use tree_texts::texts_have_trees;
 

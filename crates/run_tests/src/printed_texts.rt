@@ -1,21 +1,23 @@
 //! Runs of printed texts: totals, verdicts, and what counts as an access and as a turn of the body.
 
-use crate::ends::{Found, has_cells, has_verdict};
-use crate::printed_runs::printed_ran;
-use parse_tests::texts::GUARDED;
+use crate::trials::printed_ends;
+use sample_runs::ends::{End, Found, PLAIN};
+use sample_texts::texts::GUARDED;
 use std::test::Fail;
 
 /// The cells 5, 6 and 7 are read once each, and 8 never.
 #[test]
 fn a_guarded_shift_is_balanced(rt: HostRuntime) -> Result<(), Fail> {
-    let ended = printed_ran(rt.alloc(), GUARDED, b"n = 4\nA = 5 0 0 0\n")?.ok_or("taken")?;
-    assert!(rt; has_verdict(&ended, Found::Balanced));
-    assert!(rt; has_cells(&ended, &[&[5, 6, 7, 8]]));
-    assert_eq!(rt; ended.totals.as_slice(), [(18, 18)].as_slice());
-    assert!(rt; ended.tables.is_empty());
-    assert_eq!(rt; ended.accesses, 6);
-    assert_eq!(rt; ended.prologue_turns, 4);
-    assert_eq!(rt; ended.body_turns, 3);
+    let wanted = End {
+        verdict: Found::Balanced,
+        cells: &[&[5, 6, 7, 8]],
+        totals: &[(18, 18)],
+        accesses: 6,
+        prologue_turns: 4,
+        body_turns: 3,
+        ..PLAIN
+    };
+    assert!(rt; printed_ends(rt.alloc(), GUARDED, b"n = 4\nA = 5 0 0 0\n", &wanted)?);
     Ok(())
 }
 
@@ -44,14 +46,15 @@ uint64_t bal_fn_f(uint64_t A[1], uint64_t B[1], uint64_t C[1]) {
 
 #[test]
 fn a_fault_names_the_arrays_in_order(rt: HostRuntime) -> Result<(), Fail> {
-    let ended = printed_ran(rt.alloc(), UNEQUAL, b"A = 7\nB = 0\nC = 9\n")?.ok_or("taken")?;
-    assert!(rt; has_verdict(&ended, Found::Fault(&[0, 2])));
-    assert!(rt; has_cells(&ended, &[&[7], &[8], &[9]]));
-    let totals = [(129127208515966861326, 0), (14, 14), (0, 2)];
-    assert_eq!(rt; ended.totals.as_slice(), totals.as_slice());
-    assert_eq!(rt; ended.accesses, 1);
-    assert_eq!(rt; ended.prologue_turns, 2);
-    assert_eq!(rt; ended.body_turns, 0);
+    let wanted = End {
+        verdict: Found::Fault(&[0, 2]),
+        cells: &[&[7], &[8], &[9]],
+        totals: &[(129127208515966861326, 0), (14, 14), (0, 2)],
+        accesses: 1,
+        prologue_turns: 2,
+        ..PLAIN
+    };
+    assert!(rt; printed_ends(rt.alloc(), UNEQUAL, b"A = 7\nB = 0\nC = 9\n", &wanted)?);
     Ok(())
 }
 
@@ -74,13 +77,20 @@ uint64_t bal_fn_f(int64_t n, uint64_t A[n], uint64_t B[n]) {
 
 #[test]
 fn a_check_ends_a_run(rt: HostRuntime) -> Result<(), Fail> {
-    let inside = printed_ran(rt.alloc(), CHECKED, b"n = 2\nA = 1 0\nB = 0 0\n")?.ok_or("taken")?;
-    assert!(rt; has_verdict(&inside, Found::Balanced));
-    assert!(rt; has_cells(&inside, &[&[1, 0], &[0, 5]]));
-    assert_eq!(rt; inside.accesses, 2);
-    let behind = printed_ran(rt.alloc(), CHECKED, b"n = 2\nA = 2 0\nB = 0 0\n")?.ok_or("taken")?;
-    assert!(rt; has_verdict(&behind, Found::Index(1)));
-    assert!(rt; has_cells(&behind, &[&[2, 0], &[0, 0]]));
-    assert_eq!(rt; behind.accesses, 1);
+    let inside = End {
+        verdict: Found::Balanced,
+        cells: &[&[1, 0], &[0, 5]],
+        totals: &[(0, 0), (0, 0)],
+        accesses: 2,
+        ..PLAIN
+    };
+    assert!(rt; printed_ends(rt.alloc(), CHECKED, b"n = 2\nA = 1 0\nB = 0 0\n", &inside)?);
+    let behind = End {
+        verdict: Found::Index(1),
+        cells: &[&[2, 0], &[0, 0]],
+        accesses: 1,
+        ..inside
+    };
+    assert!(rt; printed_ends(rt.alloc(), CHECKED, b"n = 2\nA = 2 0\nB = 0 0\n", &behind)?);
     Ok(())
 }

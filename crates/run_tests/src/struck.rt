@@ -9,10 +9,10 @@ ghost use Rattle.c_tree.specs.Flips.{fault_in, IsFaultFor};
 ghost use Rattle.kernel_check.specs.Kernels.{IsKernelOf, IsPrintedOf};
 
 use crate::printed_runs::{self, printed_of};
-use crate::runs::{self, ended_under, kernel_of};
 use c_tree::{Ended, Flip, Inputs, Refusal};
 use fault_plan::{flips_fit_units, read_flip};
 use kernel_check::{Kernel, Printed};
+use sample_runs::runs::{self, ended_under, kernel_of};
 use std::alloc::Global;
 
 /// The flip that a text means for a source on these inputs, where it means one.

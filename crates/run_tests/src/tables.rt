@@ -1,8 +1,10 @@
 //! Runs of printed texts with tables, checks and words as subscripts.
 
-use crate::ends::{Found, has_cells, has_verdict};
 use crate::printed_runs::printed_ran;
+use crate::trials::printed_ends;
 use c_tree::Refusal;
+use sample_runs::ends::{End, Found, PLAIN};
+use std::alloc::Global;
 use std::test::Fail;
 
 /// The first table has three entries, and the second has none. Entries past their lengths are set, and read.
@@ -43,13 +45,16 @@ uint64_t bal_fn_f(uint64_t A[4], uint64_t B[2]) {
 
 #[test]
 fn past_its_length_a_table_is_zero(rt: HostRuntime) -> Result<(), Fail> {
-    let ended = printed_ran(rt.alloc(), ENTRIES, b"A = 1 2 3 4\nB = 5 6\n")?.ok_or("taken")?;
-    assert!(rt; has_verdict(&ended, Found::Fault(&[0, 1])));
-    assert_eq!(rt; ended.tables.as_slice(), [3, 0].as_slice());
-    assert_eq!(rt; ended.totals.as_slice(), [(5, 0), (8, 0)].as_slice());
-    assert!(rt; has_cells(&ended, &[&[1, 2, 7, 5], &[5, 7]]));
-    assert_eq!(rt; ended.accesses, 5);
-    assert_eq!(rt; ended.prologue_turns, 3);
+    let wanted = End {
+        verdict: Found::Fault(&[0, 1]),
+        cells: &[&[1, 2, 7, 5], &[5, 7]],
+        totals: &[(5, 0), (8, 0)],
+        tables: &[3, 0],
+        accesses: 5,
+        prologue_turns: 3,
+        ..PLAIN
+    };
+    assert!(rt; printed_ends(rt.alloc(), ENTRIES, b"A = 1 2 3 4\nB = 5 6\n", &wanted)?);
     Ok(())
 }
 
@@ -65,14 +70,13 @@ uint64_t bal_fn_f(uint64_t A[1]) {
 }
 ";
 
+fn finds_no_memory(alloc: Global, behind: &[u8], data: &[u8]) -> bool {
+    matches!(printed_ran(alloc, behind, data), Err(Refusal::OutOfMemory))
+}
+
 #[test]
-fn a_table_may_find_no_memory(rt: HostRuntime) -> Result<(), Fail> {
-    let found = match printed_ran(rt.alloc(), ENDLESS, b"A = 1\n") {
-        Err(Refusal::OutOfMemory) => true,
-        _ => false,
-    };
-    assert!(rt; found);
-    Ok(())
+fn a_table_may_find_no_memory(rt: HostRuntime) {
+    assert!(rt; finds_no_memory(rt.alloc(), ENDLESS, b"A = 1\n"));
 }
 
 /// A word below the extent, and then a word that is the extent.
@@ -101,14 +105,22 @@ uint64_t bal_fn_f(int64_t n, uint64_t A[n], uint64_t B[n + 1]) {
 
 #[test]
 fn a_word_that_is_the_extent_ends_a_run(rt: HostRuntime) -> Result<(), Fail> {
-    let last = printed_ran(rt.alloc(), CHECKS, b"n = 2\nA = 0 0\nB = 0 0 0\n")?.ok_or("taken")?;
-    assert!(rt; has_verdict(&last, Found::Index(1)));
-    assert!(rt; has_cells(&last, &[&[0, 5], &[0, 0, 5]]));
-    assert_eq!(rt; last.accesses, 3);
-    assert_eq!(rt; last.tables.as_slice(), [2].as_slice());
-    let first = printed_ran(rt.alloc(), CHECKS, b"n = 1\nA = 0\nB = 0 0\n")?.ok_or("taken")?;
-    assert!(rt; has_verdict(&first, Found::Index(0)));
-    assert!(rt; has_cells(&first, &[&[0], &[0, 0]]));
-    assert_eq!(rt; first.accesses, 0);
+    let last = End {
+        verdict: Found::Index(1),
+        cells: &[&[0, 5], &[0, 0, 5]],
+        totals: &[(0, 0), (0, 0)],
+        tables: &[2],
+        accesses: 3,
+        ..PLAIN
+    };
+    assert!(rt; printed_ends(rt.alloc(), CHECKS, b"n = 2\nA = 0 0\nB = 0 0 0\n", &last)?);
+    let first = End {
+        verdict: Found::Index(0),
+        cells: &[&[0], &[0, 0]],
+        totals: &[(0, 0), (0, 0)],
+        tables: &[1],
+        ..PLAIN
+    };
+    assert!(rt; printed_ends(rt.alloc(), CHECKS, b"n = 1\nA = 0\nB = 0 0\n", &first)?);
     Ok(())
 }

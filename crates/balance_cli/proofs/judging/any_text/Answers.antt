@@ -1,6 +1,0 @@
-use Rattle.balance_cli.specs.Sources.{AnyText}
-use Rattle.balance_cli.proofs.Refusals.{stop_by}
-use Rattle.balance_cli.proofs.judging.any_text.Goals as goal
-
-pub returns-in-Err : goal.returns-in-Err
-returns-in-Err c = rw c.from.ensures (stop_by AnyText c.args.text.now c.in-Err.refusal c.in-Err.ensures)
