@@ -5,7 +5,8 @@ use Rattle.c_tree.specs.Accesses.{Access, at, Definition, same_definition, last_
 use Rattle.c_tree.specs.Accesses.Definition.{Initial, Written}
 use Rattle.balance_laws.specs.Totals.{sum_cells}
 use Rattle.balance_laws.proofs.Sums.{sum_below_none, sum_below_more, sum_below_same, sum_below_plus, sum_below_zero, sum_below_one, sum_cells_same, sum_cells_plus, sum_cells_zero, sum_cells_one}
-use Rattle.balance_laws.proofs.Latest.{same_cell_refl, same_cell_other, is_of-true, IsLatest, latest_is}
+use Rattle.balance_laws.proofs.Latest.{is_of-true, IsLatest, latest_is}
+use Rattle.cell_laws.proofs.SameCell.{same_cell_refl, same_cell_other}
 use Rattle.balance_laws.proofs.Latest.IsLatest.{at_first, by_write}
 
 abbrev pub writes_of : List Access → ℕ → ℕ → Bool

@@ -10,7 +10,8 @@ use Rattle.balance_laws.specs.Totals.{value_of, reads_after, uses_after, use_sum
 use Rattle.balance_laws.specs.Replay.{Replays}
 use Rattle.std.specs.Prelude.{bit_xor}
 use Rattle.balance_laws.proofs.Sums.{sum_below_zero, le_sum_below, sum_below_le, sum_below_some}
-use Rattle.balance_laws.proofs.Latest.{same_cell_refl, is_of-true, writes_at, IsLatest, latest_is, latest_written, latest_kept, same_definition-true, same_definition_refl}
+use Rattle.balance_laws.proofs.Latest.{is_of-true, writes_at, IsLatest, latest_is, latest_written, latest_kept, same_definition-true, same_definition_refl}
+use Rattle.cell_laws.proofs.SameCell.{same_cell_refl}
 use Rattle.balance_laws.proofs.Latest.IsLatest.{at_first, by_write}
 use Rattle.balance_laws.proofs.Laws.{sums_differ}
 use Rattle.balance_laws.proofs.Replayed.{owner, not_latest, struck_value, flip_reads}

@@ -7,7 +7,8 @@ use Rattle.c_tree.specs.Accesses.Definition.{Written}
 use Rattle.balance_laws.specs.Totals.{value_of, ReadsLastWriter, ReadsButAfter}
 use Rattle.balance_laws.specs.Replay.{after_access, left_after, Replays}
 use Rattle.std.specs.Prelude.{bit_xor}
-use Rattle.balance_laws.proofs.Latest.{same_cell_refl, same_cell-true, is_of-true, IsLatest, latest_is, latest_start, latest_written, latest_kept, same_definition-true, same_definition_refl}
+use Rattle.balance_laws.proofs.Latest.{is_of-true, IsLatest, latest_is, latest_start, latest_written, latest_kept, same_definition-true, same_definition_refl}
+use Rattle.cell_laws.proofs.SameCell.{same_cell_refl, same_cell-true}
 use Rattle.balance_laws.proofs.Latest.IsLatest.{at_first, by_write}
 use Rattle.c_tree.specs.Fault.{Upset, disturbed}
 use Rattle.c_tree.specs.Arrays.{Memory, same_cell}

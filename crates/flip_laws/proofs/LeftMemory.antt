@@ -7,7 +7,8 @@ use Rattle.c_tree.specs.Accesses.{Access, latest, same_definition}
 use Rattle.c_tree.specs.Fault.{Upset, inverted}
 use Rattle.balance_laws.specs.Replay.{left_after}
 use Rattle.balance_laws.specs.Laws.{FlippedMemory}
-use Rattle.balance_laws.proofs.Latest.{same_cell_refl, same_cell-true, writes_at, latest_kept, same_definition-true, same_definition_refl}
+use Rattle.balance_laws.proofs.Latest.{writes_at, latest_kept, same_definition-true, same_definition_refl}
+use Rattle.cell_laws.proofs.SameCell.{same_cell_refl, same_cell-true}
 use Rattle.balance_laws.proofs.Replayed.{owner}
 use Rattle.balance_laws.proofs.Flips.{no_write}
 use Rattle.flip_laws.specs.FaultyRuns.{IsOverwritten}

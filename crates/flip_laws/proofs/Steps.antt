@@ -7,6 +7,7 @@ use Rattle.c_tree.specs.Fault.{Fault, Upset, upset_at, upset_of}
 use Rattle.c_tree.specs.Instances.{accesses}
 use Rattle.c_tree.specs.Inputs.{PlainInputs, arrays_for, memory_for, Fit, IsSound}
 use Rattle.c_tree.specs.Run.{Event, End, plain, balanced, fault as faulty, index, outside, Ended, run_from, run}
+use Rattle.c_tree.specs.Flips.{IsFaultFor}
 use Rattle.run_laws.specs.Logs.{accesses_in, values_in}
 use Rattle.instrumentation.specs.Guarded.{arrays_with_extents, guarded}
 use Rattle.instrumentation_laws.specs.KeptTexts.{IsQuiet, EveryQuietTextEnds}
@@ -19,7 +20,7 @@ use Rattle.balance_laws.specs.Laws.{HiddenFlip, FlippedMemory}
 use Rattle.pass_laws.specs.Laws.{SourcesTurn}
 use Rattle.guard_laws.specs.Forms.{HasForms}
 use Rattle.guard_laws.specs.IndexArrays.{is_index_array}
-use Rattle.guard_laws.specs.Guards.{IsFaultIn, IsExposed, IsRead, EndsAtNoCheck, GuardsInDetail, ReadyAreGuarded}
+use Rattle.guard_laws.specs.Guards.{IsExposed, IsRead, EndsAtNoCheck, GuardsInDetail, ReadyAreGuarded}
 use Rattle.guard_laws.proofs.Guarded.{tables_of, cells_of, pieces_of, not_index}
 use Rattle.guard_laws.proofs.SourceEnds.{GoesOnTo, body_run, source_goes}
 use Rattle.flip_laws.specs.FaultyRuns.{TakesSameSteps, EndsAtCheck, KeepsIndices, MakesList, ShowsNothing, TurnsAlike, TellsOfFaults}
@@ -104,7 +105,7 @@ module _ (text_quiet : EveryQuietTextEnds) (text_follows : EveryTextFollows) (co
   goes : (i : PlainInputs) → IsSound u i → (x : Option Upset) → IsQuiet (is_index_array u) (accesses u i.ints (memory_for u i)) x → GoesOnTo x (memory_for u i) (accesses u i.ints (memory_for u i)) (body_run u i x)
   goes i sound x quiet = source_goes text_quiet text_follows counted_go_on source_turn u i (is_index_array u) (tables_of u) (cells_of u) (pieces_of u) (λ x. counted i x sound) sound x quiet
 
-  shows_nothing : (i : PlainInputs) (f : Fault) → IsSound u i → IsFaultIn u i f → ¬ IsRead u i f → ShowsNothing u i f (run (guarded u) i None) (run (guarded u) i (Some f))
+  shows_nothing : (i : PlainInputs) (f : Fault) → IsSound u i → IsFaultFor u i f → ¬ IsRead u i f → ShowsNothing u i f (run (guarded u) i None) (run (guarded u) i (Some f))
   shows_nothing i f sound fits unread =
       let h : HasForms u i = forms i sound.fit in
       let through = h.follows sound.clean in

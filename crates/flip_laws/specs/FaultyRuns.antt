@@ -7,12 +7,13 @@ use Rattle.c_tree.specs.Fault.{Fault, Upset, upset_of, inverted}
 use Rattle.c_tree.specs.Instances.{accesses, source_output}
 use Rattle.c_tree.specs.Inputs.{PlainInputs, arrays_for, memory_for, Fit, IsSound}
 use Rattle.c_tree.specs.Run.{plain, balanced, index, outside, judged, Ended, run}
+use Rattle.c_tree.specs.Flips.{IsFaultFor}
 use Rattle.run_laws.specs.Logs.{accesses_in, values_in}
 use Rattle.instrumentation.specs.Guarded.{guarded}
 use Rattle.instrumentation_laws.specs.UnitLaws.{differing, totals_over}
 use Rattle.guard_laws.specs.Forms.{HasForms}
 use Rattle.guard_laws.specs.IndexArrays.{is_index_array}
-use Rattle.guard_laws.specs.Guards.{IsFaultIn, IsRead, InspectsNothing, EndsAtNoCheck, GuardsInDetail}
+use Rattle.guard_laws.specs.Guards.{IsRead, InspectsNothing, EndsAtNoCheck, GuardsInDetail}
 use Rattle.acceptance.specs.Sources.{IsAcceptedSource}
 
 -- ---- steps
@@ -90,7 +91,7 @@ pub record ShowsNothing (source : PlainUnit) (i : PlainInputs) (f : Fault) (with
 
 -- So it is for all sound inputs and every fault that isn't exposed.
 abbrev pub HidesUnread : PlainUnit → PlainUnit → Type 0
-HidesUnread source unit = (i : PlainInputs) (f : Fault) → IsSound source i → IsFaultIn source i f → ¬ IsRead source i f →
+HidesUnread source unit = (i : PlainInputs) (f : Fault) → IsSound source i → IsFaultFor source i f → ¬ IsRead source i f →
     ShowsNothing source i f (run unit i None) (run unit i (Some f))
 
 -- ---- turns

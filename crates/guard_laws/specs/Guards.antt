@@ -4,12 +4,13 @@ use Rattle.std.specs.List.{list_any}
 use Rattle.c_tree.specs.Plain.{PlainUnit}
 use Rattle.c_tree.specs.Trees.{stmts_of}
 use Rattle.c_tree.specs.Values.{Vars}
-use Rattle.c_tree.specs.Arrays.{words_from, extents_at, cell_count, vars_of}
+use Rattle.c_tree.specs.Arrays.{words_from, extents_at, vars_of}
 use Rattle.c_tree.specs.Accesses.{Access, at, Within}
 use Rattle.c_tree.specs.Fault.{Fault, Upset, upset_of, Exposed}
 use Rattle.c_tree.specs.Instances.{accesses, source_output}
 use Rattle.c_tree.specs.Inputs.{PlainInputs, arrays_for, memory_for, Fit, IsClean, IsSound}
 use Rattle.c_tree.specs.Run.{State, Outcome, goes_on, ends, exec_all, End, plain, balanced, fault as faulty, index, outside, Reports, Ended, started, run, turns}
+use Rattle.c_tree.specs.Flips.{IsFaultFor}
 use Rattle.run_laws.specs.Logs.{values_in}
 use Rattle.instrumentation.specs.Passes.{Target, pass_text}
 use Rattle.instrumentation.specs.Pieces.{initial_piece, site_pieces_all, piece_at, builds}
@@ -43,12 +44,6 @@ HasTotals source unit = (i : PlainInputs) → IsSound source i →
 
 -- ---- with a fault
 
--- a fault in a bit of a cell that there is
-pub record IsFaultIn (source : PlainUnit) (i : PlainInputs) (f : Fault) : Type 0 where
-  pub array : f.array < length (arrays_for source i.ints)
-  pub cell : f.cell < cell_count (extents_at (arrays_for source i.ints) f.array)
-  pub bit : f.bit < 64
-
 abbrev pub IsExposed : List Access → Option Upset → Type 0
 IsExposed list None = ⊥
 IsExposed list (Some upset) = Exposed list upset
@@ -59,11 +54,11 @@ IsRead source i f = IsExposed (accesses source i.ints (memory_for source i)) (up
 
 -- For all sound inputs and every such fault the unit reports exactly where the cell's next access is a read.
 abbrev pub ReportsExactly : PlainUnit → PlainUnit → Type 0
-ReportsExactly source unit = (i : PlainInputs) (f : Fault) → IsSound source i → IsFaultIn source i f → Reports (run unit i (Some f)).verdict ↔ IsRead source i f
+ReportsExactly source unit = (i : PlainInputs) (f : Fault) → IsSound source i → IsFaultFor source i f → Reports (run unit i (Some f)).verdict ↔ IsRead source i f
 
 -- Where the array of the fault is no index array, it then names this array alone.
 abbrev pub NamesTheArray : PlainUnit → PlainUnit → Type 0
-NamesTheArray source unit = (i : PlainInputs) (f : Fault) → IsSound source i → IsFaultIn source i f → is_index_array source f.array ≡ false →
+NamesTheArray source unit = (i : PlainInputs) (f : Fault) → IsSound source i → IsFaultFor source i f → is_index_array source f.array ≡ false →
     IsRead source i f → (run unit i (Some f)).verdict ≡ faulty (f.array ∷ [])
 
 -- a run ended at a check, or names arrays of which this is one
@@ -76,12 +71,12 @@ TellsOfArray a (outside b) = ⊥
 
 -- Where it is an index array, the unit then ends so.
 abbrev pub TellsOfIndexArrays : PlainUnit → PlainUnit → Type 0
-TellsOfIndexArrays source unit = (i : PlainInputs) (f : Fault) → IsSound source i → IsFaultIn source i f → is_index_array source f.array ≡ true →
+TellsOfIndexArrays source unit = (i : PlainInputs) (f : Fault) → IsSound source i → IsFaultFor source i f → is_index_array source f.array ≡ true →
     IsRead source i f → TellsOfArray f.array (run unit i (Some f)).verdict
 
 -- A fault that no read sees leaves it balanced, whatever its array.
 abbrev pub StaysBalanced : PlainUnit → PlainUnit → Type 0
-StaysBalanced source unit = (i : PlainInputs) (f : Fault) → IsSound source i → IsFaultIn source i f → ¬ IsRead source i f → (run unit i (Some f)).verdict ≡ balanced
+StaysBalanced source unit = (i : PlainInputs) (f : Fault) → IsSound source i → IsFaultFor source i f → ¬ IsRead source i f → (run unit i (Some f)).verdict ≡ balanced
 
 -- ---- inputs that fit, sound or not, under every fault
 

@@ -1,16 +1,16 @@
 -- Literals under the operators of signed values: word arithmetic gives them the value that signed arithmetic does, modulo 2^64.
-use Rattle.std.proofs.Common.{◌≡◌, ℕ, ◌+◌, ◌-◌, ◌*◌, ◌%◌, ◌^◌, ◌<◌, ℤ, pos, ◌+ℤ◌, ◌-ℤ◌, ◌*ℤ◌, neg_ℤ, List, refl, sym, ap, ◌∙◌, subst, arith, true≢false, true, false}
+use Rattle.std.proofs.Common.{◌≡◌, ℕ, ◌+◌, ◌-◌, ◌*◌, ◌%◌, ◌^◌, ◌<◌, ℤ, pos, ◌+ℤ◌, ◌-ℤ◌, ◌*ℤ◌, neg_ℤ, List, refl, sym, ap, ◌∙◌, arith}
 use Rattle.std.proofs.Math.Nat.{mod-lt, mod-eq_of_lt}
 use Rattle.std.proofs.Math.Facts.{to_z_pos}
 use Rattle.std.proofs.lemmas.Int.{ints, int_wrap_fits, SFits-int_wrap, of_z-to_z, wrapping_add-bits, wrapping_mul-bits, wrapping_sub_onto}
 use Rattle.std.specs.Int.{w64, int_wrap, cast_signed, cast_unsigned}
 use Rattle.std.specs.Int.RustNames.{FitsSigned}
-use Rattle.c_tree.specs.Plain.{Word, PlainExpr, lit, var, cell, un, bin, cast, test, umin, umax, least, greatest, widen, big}
+use Rattle.c_tree.specs.Plain.{Word, PlainExpr, lit, un, bin}
 use Rattle.c_tree.specs.Values.{Vars, signed, word_un, word_bin, as_word}
 use Rattle.c_tree.specs.Run.{State, goes_on, Scope, word}
-use Rattle.c_tree.specs.declared.expr.UnOp.TheVariants.{Neg, Inv}
+use Rattle.c_tree.specs.declared.expr.UnOp.TheVariants.{Neg}
 use Rattle.c_tree.specs.declared.expr.BinOp.TheVariants.{Add, Sub, Mul}
-use Rattle.c_tree.proofs.WordValues.{as_word_cast, as_word_fits}
+use Rattle.c_tree.proofs.WordValues.{as_word_cast}
 use Rattle.instrumentation.specs.Passes.{renamed}
 use Rattle.inspection_laws.specs.Walked.{IsConstant}
 

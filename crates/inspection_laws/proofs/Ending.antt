@@ -11,7 +11,7 @@ use Rattle.c_tree.specs.declared.expr.BinOp.TheVariants.{Add, Sub}
 use Rattle.c_tree.specs.Arrays.{Array, Memory, array_named, is_within, size_of}
 use Rattle.c_tree.specs.Fault.{Upset}
 use Rattle.c_tree.specs.Instances.{word_at}
-use Rattle.c_tree.specs.Run.{State, End, Outcome, goes_on, ends, outside, index, Run, ◌>>=◌, and_then, done, end_as, Scope, loads, within, by_array, put, word, coordinates, first_word, set_word, make_table, turn, over, exec, exec_all}
+use Rattle.c_tree.specs.Run.{State, End, Outcome, goes_on, ends, outside, index, Run, ◌>>=◌, and_then, done, end_as, Scope, loads, within, by_array, put, word, coordinates, first_word, make_table, turn, over, exec, exec_all}
 use Rattle.c_tree.specs.Run as run
 use Rattle.instrumentation.specs.Names.{pass_variable}
 use Rattle.instrumentation.specs.Body.{full}

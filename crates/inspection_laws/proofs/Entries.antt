@@ -7,7 +7,7 @@ use Rattle.c_tree.specs.Plain.{Word, PlainExpr, lit, var, cell, bin, cast, Plain
 use Rattle.c_tree.specs.Values.{Vars}
 use Rattle.c_tree.specs.Arrays.{array_named, size_of, cell_count}
 use Rattle.c_tree.specs.Accesses.{Within}
-use Rattle.c_tree.specs.Run.{State, Outcome, goes_on, Run, ◌>>=◌, and_then, Scope, loads, stores, within, by_array, put, word, coordinates, first_word, updated, set_entry, set_word, exec}
+use Rattle.c_tree.specs.Run.{State, Outcome, goes_on, Run, ◌>>=◌, and_then, Scope, loads, stores, within, by_array, put, word, coordinates, first_word, updated, set_entry, exec}
 use Rattle.c_tree.specs.Run as run
 use Rattle.c_tree.specs.Values.{word_bin}
 use Rattle.c_tree.specs.declared.expr.BinOp.TheVariants.{Add, Sub, Mul}

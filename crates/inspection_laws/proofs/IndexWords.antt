@@ -16,7 +16,7 @@ use Rattle.c_tree.specs.Arrays.{Array, Memory, is_within, size_of}
 use Rattle.c_tree.specs.Accesses.{Within}
 use Rattle.c_tree.specs.Instances.{word_at, word_within}
 use Rattle.c_tree.specs.Fault.{Upset}
-use Rattle.c_tree.specs.Run.{State, Outcome, goes_on, ends, index, outside, Run, and_then, ◌>>=◌, done, end_as, Scope, loads, within, by_array, put, word, coordinates, first_word, set_word, exec, exec_all}
+use Rattle.c_tree.specs.Run.{State, Outcome, goes_on, ends, index, outside, Run, and_then, ◌>>=◌, done, end_as, Scope, loads, within, by_array, put, word, coordinates, first_word, exec, exec_all}
 use Rattle.c_tree.specs.Run as run
 use Rattle.instrumentation.specs.Passes.{renamed, renamed_all}
 use Rattle.instrumentation_laws.specs.OwnNames.{begins}
@@ -25,7 +25,6 @@ use Rattle.instrumentation_laws.specs.RegularSources.{AreRegular}
 use Rattle.instrumentation_laws.specs.Setting.{scope_of}
 use Rattle.instrumentation_laws.proofs.Steps.{regular_at, set_value, load_before}
 use Rattle.instrumentation_laws.proofs.Names.{numbered_apart, same_word, apart_as}
-use Rattle.std.proofs.lemmas.Int.{int_wrap_fits}
 use Rattle.pass_laws.specs.Countable.{AreOwn, IsAffine, AreAffine, rank}
 use Rattle.pass_laws.specs.Going.{GoesTo}
 use Rattle.pass_laws.specs.Places.{IsPlace}

@@ -23,7 +23,7 @@ use Rattle.instrumentation_laws.proofs.Declared.{declares, sizes_are, count_in}
 use Rattle.instrumentation_laws.proofs.Constant.{constant, constant_piece, count_is}
 use Rattle.instrumentation_laws.specs.PrologueTotals.{coordinate_vars, AreDeclared}
 use Rattle.pass_laws.proofs.Standing.{access_here}
-use Rattle.run_laws.proofs.Within.{within_from}
+use Rattle.cell_laws.proofs.Within.{within_from}
 use Rattle.inspection_laws.specs.CountingPieces.{AreGiven}
 use Rattle.inspection_laws.proofs.IndexWords.{as_word_is}
 use Rattle.instrumentation.specs.Passes.{coordinates_from}

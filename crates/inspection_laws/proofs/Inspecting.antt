@@ -6,7 +6,8 @@ use Rattle.c_tree.specs.Arrays.{size_of, cell_count, same_cell}
 use Rattle.c_tree.specs.Accesses.{Access, nowhere, at, is_of, Definition, same_definition, latest, last_writer, reads_from, uses, Within}
 use Rattle.c_tree.specs.Accesses.Definition.{Initial, Written}
 use Rattle.balance_laws.proofs.Sums.{sum_below_more, sum_below_none}
-use Rattle.balance_laws.proofs.Latest.{same_cell_refl, same_cell-true, is_of-true, same_definition-true, same_definition_refl, latest_start, latest_written, latest_kept, latest_is, IsLatest, at_first, by_write}
+use Rattle.balance_laws.proofs.Latest.{is_of-true, same_definition-true, same_definition_refl, latest_start, latest_written, latest_kept, latest_is, IsLatest, at_first, by_write}
+use Rattle.cell_laws.proofs.SameCell.{same_cell_refl, same_cell-true}
 use Rattle.std.proofs.lemmas.List.{get_or_past}
 use Rattle.inspection_laws.specs.Inspected.{row, writes_array, writes_before, IsIts, number_of, uses_below, Inspected}
 

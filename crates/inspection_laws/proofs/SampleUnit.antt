@@ -1,6 +1,6 @@
 -- A unit with an inspected array that is written, and an index array that passes count, meets what is asked of it;
 -- computed for n = 2, it makes these tables and turns: for (i = 0; i < n; i++) X[i] = X[P[i]] + 1;
-use Rattle.std.proofs.Common.{◌≡◌, ℕ, List, [], ◌∷◌, ℤ, pos, refl, codes, Some, None, true, false, inl, arith}
+use Rattle.std.proofs.Common.{◌≡◌, ℕ, List, [], ◌∷◌, ℤ, pos, refl, codes, None, true, false, inl, arith}
 use Rattle.std.specs.Int.{int_wrap}
 use Rattle.std.specs.Fmt.{digits}
 use Rattle.c_tree.specs.Plain.{PlainExpr, lit, var, cell, bin, PlainExprs, no_exprs, more_exprs, loop, assign, no_stmts, more_stmts, int_param, array_param, PlainUnit}
@@ -8,7 +8,7 @@ use Rattle.c_tree.specs.Values.{Vars}
 use Rattle.c_tree.specs.Arrays.{Array, extents_at, vars_of}
 use Rattle.c_tree.specs.Accesses.{sum_below, writes_of}
 use Rattle.c_tree.specs.Inputs.{PlainInputs, arrays_for}
-use Rattle.c_tree.specs.Run.{run, balanced, turns}
+use Rattle.c_tree.specs.Run.{run, balanced}
 use Rattle.c_tree.specs.declared.expr.Rel.TheVariants.{Lt}
 use Rattle.c_tree.specs.declared.expr.BinOp.TheVariants.{Add}
 use Rattle.instrumentation.specs.Names.{register, result, count, definition_total, use_total, coordinate, pass_variable, active, counter, written, index_word, current, counts, function_name}

@@ -25,7 +25,7 @@ use Rattle.pass_laws.specs.Places.{IsPlace}
 use Rattle.pass_laws.proofs.Going.{must_join}
 use Rattle.pass_laws.proofs.Renamed.{names, copied_vars}
 use Rattle.pass_laws.proofs.Standing.{access_here, below_here}
-use Rattle.run_laws.proofs.Within.{within_is}
+use Rattle.cell_laws.proofs.Within.{within_is}
 use Rattle.instrumentation.specs.Subscripts.{is_cell}
 use Rattle.instrumentation.specs.Names.{written, current, counts}
 use Rattle.instrumentation.specs.Tables.{row_of, words_at, index_words, word_checks, count_current, inspect_cell, inspect_indices, inspect_reads, one_more, set_current, number_writes, walk_all}

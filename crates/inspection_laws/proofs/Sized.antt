@@ -1,7 +1,5 @@
 -- Extents have their values wherever the parameters have theirs: in the walks, at an assignment, and at a cell of the prologue.
 use Rattle.std.proofs.Common.{◌≡◌, ◌⊎◌, inl, inr, ℕ, ◌^◌, ◌<◌, true, if◌then◌else◌, List, [], ◌∷◌, ◌++◌, refl, sym, ap, ◌∙◌, arith, ℤ, pos}
-use Rattle.std.specs.Int.{w64}
-use Rattle.std.proofs.lemmas.Int.{int_wrap_fits}
 use Rattle.c_tree.specs.Plain.{PlainExpr, lit, var, cell, un, bin, cast, test, umin, umax, least, greatest, widen, big, PlainExprs, no_exprs, more_exprs}
 use Rattle.c_tree.specs.Kinds.{either, signed_kind}
 use Rattle.c_tree.specs.Values.{Vars, signed, as_word, kind}

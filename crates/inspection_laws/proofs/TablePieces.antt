@@ -26,7 +26,7 @@ use Rattle.instrumentation_laws.proofs.Names.{front_cancel, same_word, apart_by,
 use Rattle.instrumentation_laws.proofs.Steps.{exec_one}
 use Rattle.balance_laws.proofs.Sums.{sum_below_none}
 use Rattle.pass_laws.proofs.Standing.{access_here, below_here}
-use Rattle.run_laws.proofs.Within.{within_from}
+use Rattle.cell_laws.proofs.Within.{within_from}
 use Rattle.instrumentation.specs.Names.{written, counts}
 use Rattle.instrumentation.specs.Tables.{one, cells_of, row_of, words_from, one_more, initial, at_write}
 use Rattle.inspection_laws.specs.Inspected.{row, writes_array, writes_before, IsIts, number_of}

@@ -13,7 +13,7 @@ use Rattle.c_tree.specs.Instances.{Tagged, untagged, literal_of, core, accesses}
 use Rattle.c_tree.specs.Run.{Scope, run}
 use Rattle.run_laws.specs.Sources as exactly
 use Rattle.run_laws.specs.Laws.{RunsThrough}
-use Rattle.run_laws.proofs.Within.{within_from}
+use Rattle.cell_laws.proofs.Within.{within_from}
 use Rattle.instrumentation.specs.Body.{instrument_all}
 use Rattle.instrumentation.specs.Prologue.{prologue_text}
 use Rattle.instrumentation.specs.Guarded.{arrays_with_extents, extents_of}

@@ -1,7 +1,8 @@
 -- What a whole text with irregular reads does under every fault.
 use Rattle.std.proofs.Common.{◌≡◌, ◌≢◌, ◌↔◌, ◌⊎◌, inl, inr, ℕ, zero, suc, ◌+◌, ◌-◌, ◌%◌, ◌^◌, ◌<◌, ◌≤◌, Bool, true, false, not, ◌&&◌, ◌==◌, cond, List, [], ◌∷◌, ◌++◌, length, refl, sym, ap, ◌∙◌, subst, arith, ℤ, Option, Some, None, true≢false, eq-eqb, nat_lt}
 use Rattle.std.proofs.lemmas.Bool.{cases_Bool, cases_eq, and_from, and_parts, eqb-true, ltb-true, lt-ltb}
-use Rattle.balance_laws.proofs.Latest.{same_cell_refl, same_cell-true, is_of-true}
+use Rattle.balance_laws.proofs.Latest.{is_of-true}
+use Rattle.cell_laws.proofs.SameCell.{same_cell_refl, same_cell-true}
 use Rattle.std.proofs.lemmas.List.{append-nil, length-map}
 use Rattle.c_tree.specs.Plain.{Word, PlainExprs, PlainStmt, begin, PlainStmts}
 use Rattle.c_tree.specs.Trees.{stmts_of}

@@ -25,7 +25,7 @@ use Rattle.instrumentation_laws.specs.Pieces.{Declares, Piece, uses_in}
 use Rattle.instrumentation_laws.specs.Kept.{Kept, Ready, IsKept, Counts, view, views, seen, Trust, Unseen, Steady, Totals, EndsEarly}
 use Rattle.instrumentation_laws.specs.Trusts.{AllSteady, TrustsExpr}
 use Rattle.run_laws.specs.Logs.{accesses_in}
-use Rattle.run_laws.proofs.Within.{within_is, within_from}
+use Rattle.cell_laws.proofs.Within.{within_is, within_from}
 use Rattle.instrumentation_laws.specs.RunningTotals.{read_sum, written_sum, Follows}
 use Rattle.instrumentation_laws.specs.Setting.{scope_of}
 use Rattle.instrumentation_laws.proofs.Names.{same_word, register_apart, apart_as', register_no_piece, use_apart, definition_apart, use_definition, definition_use, count_use, count_definition, result_no_piece}

@@ -21,7 +21,7 @@ use Rattle.instrumentation_laws.specs.IndexedList.{coordinate_at, coordinates_at
 use Rattle.instrumentation.proofs.Subscripts.{cell_or_not, not_by_cell}
 use Rattle.instrumentation_laws.proofs.IndexCells.{no_cell, plain_kind, no_indices}
 use Rattle.instrumentation.proofs.RegularReads.{no_checks, same_words}
-use Rattle.run_laws.proofs.Within.{within_is}
+use Rattle.cell_laws.proofs.Within.{within_is}
 use Rattle.instrumentation_laws.specs.RegularSources.{AreRegular}
 use Rattle.instrumentation_laws.proofs.Steps.{regular_at}
 use Rattle.instrumentation_laws.proofs.RegularLists.{signed_coordinates}

@@ -1,6 +1,4 @@
 pub mod Turns
-pub mod CellRows
-pub mod CellsApart
 pub mod StandsSame
 pub mod StandsCells
 pub mod Strikes
@@ -12,9 +10,7 @@ pub mod SignedSubscripts
 pub mod StandsWides
 pub mod StandsSteps
 pub mod StandsTrees
-pub mod ExtentsProducts
 pub mod Deeper
-pub mod ExtentsIntervals
 pub mod Extents
 pub mod WholeNames
 pub mod WholeCells

@@ -8,7 +8,7 @@ use Rattle.interp.specs.declared.machine.Strike.{Strike}
 use Rattle.interp.specs.Places.{Placed}
 use Rattle.interp.specs.Shown.{IsStrike, Strikes, cells_from, places_from}
 use Rattle.interp.specs.Started.{strike_in, strike_for}
-use Rattle.interp.proofs.CellRows.{length-all_cells}
+use Rattle.cell_laws.proofs.Rows.{length-all_cells}
 use Rattle.interp.proofs.StandsCells.{offset, placed_at, cell_read, cell_write, few_at, low_offset}
 
 -- what stands at a place of a list

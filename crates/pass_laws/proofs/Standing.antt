@@ -7,7 +7,8 @@ use Rattle.c_tree.specs.Accesses.{Access, Definition, at, nowhere, is_of, same_d
 use Rattle.c_tree.specs.Accesses.Definition.{Initial, Written}
 use Rattle.c_tree.specs.Instances.{Tagged, untagged}
 use Rattle.balance_laws.proofs.Sums.{sum_below_more, sum_below_le}
-use Rattle.balance_laws.proofs.Latest.{same_cell_refl, is_of-true, latest_start, latest_written, latest_kept}
+use Rattle.balance_laws.proofs.Latest.{is_of-true, latest_start, latest_written, latest_kept}
+use Rattle.cell_laws.proofs.SameCell.{same_cell_refl}
 
 -- the element after these
 pub get_here : {X : Type 0} (pre : List X) (x : X) (rest : List X) → slice_get (pre ++ x ∷ rest) (length pre) ≡ Some x

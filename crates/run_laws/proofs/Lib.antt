@@ -5,5 +5,3 @@ pub mod Follows
 pub mod Runs
 pub mod Alike
 pub mod Pieces
-pub mod Rows
-pub mod Cells

@@ -1,14 +1,13 @@
 -- Lists whose accesses lie within their extents, access by access.
-use Rattle.std.proofs.Common.{◌≡◌, ℕ, zero, suc, ◌+◌, ◌<◌, Bool, true, false, ◌&&◌, List, [], ◌∷◌, ◌++◌, map, flat_map, ℤ, pos, negsuc, Option, Some, None, refl, sym, ap, ◌∙◌, subst, arith, inl, inr}
+use Rattle.std.proofs.Common.{◌≡◌, ℕ, zero, suc, ◌+◌, ◌<◌, Bool, true, List, [], ◌∷◌, ◌++◌, map, flat_map, ℤ, Option, Some, None, refl, sym, ap, ◌∙◌, subst, arith, inl, inr}
 use Rattle.std.specs.Prelude.{slice_get, bytes_eq}
 use Rattle.std.specs.List.{AllByRecursion, list_all}
-use Rattle.std.proofs.Math.Dec.{leb, ltb}
-use Rattle.std.proofs.lemmas.Bool.{cases_Bool, ltb-true}
-use Rattle.std.proofs.lemmas.Bool.Decides.{nat_tests}
+use Rattle.std.proofs.lemmas.Bool.{cases_Bool, and_parts}
 use Rattle.c_tree.specs.Plain.{Word}
 use Rattle.c_tree.specs.Arrays.{Array, Memory, is_within, extents_at, extents_in, array_from, array_named}
-use Rattle.c_tree.specs.Accesses.{Access, Within, Clean}
+use Rattle.c_tree.specs.Accesses.{Access, Clean}
 use Rattle.c_tree.specs.Instances.{Instance, Tagged, untagged, tagged_of, accesses_of, access_at}
+use Rattle.cell_laws.proofs.Within.{within_is, within_from}
 
 abbrev pub AllWithin : List Array → List Access → Type 0
 AllWithin arrays list = AllByRecursion (λ (a : Access). is_within a.cell (extents_at arrays a.array) ≡ true) list
@@ -22,41 +21,6 @@ back_within arrays [] ys c = c
 back_within arrays (x ∷ xs) ys c = back_within arrays xs ys c.1
 
 -- ---- what the laws of lists of accesses call clean, and that it is the same
-
-pub within_is : (es c : List ℤ) → Within es c → is_within c es ≡ true
-within_is [] [] h = refl
-within_is [] (i ∷ c) h = absurd h
-within_is (e ∷ es) [] h = absurd h
-within_is (pos n ∷ es) (i ∷ c) h = rw (h.0.1, within_is es c h.1) (grind (arith, nat_tests))
-within_is (negsuc n ∷ es) (i ∷ c) h = absurd (let f : h.0.0 < 0 = h.0.2 in omega arith)
-
-both_true : (a b : Bool) → (a && b) ≡ true → (a ≡ true) × (b ≡ true)
-both_true true b h = (refl, h)
-both_true false b h = absurd (let e : false ≡ true = h in cc)
-
--- the first coordinate, and the others
-pub inside : (i n : ℕ) (cs es : List ℤ) → is_within (pos i ∷ cs) (pos n ∷ es) ≡ true → (i < n) × (is_within cs es ≡ true)
-inside i n cs es h =
-    let a = both_true (leb 0 i && ltb i n) (is_within cs es) h in
-    let b = both_true (leb 0 i) (ltb i n) a.0 in
-    (ltb-true i n b.1, a.1)
-
-pub not_inside : (i : ℕ) (e : ℤ) (cs es : List ℤ) → is_within (negsuc i ∷ cs) (e ∷ es) ≡ true → ⊥
-not_inside i e cs es h = let f : false ≡ true = h in cc
-
-pub no_room : (i n : ℕ) (cs es : List ℤ) → is_within (pos i ∷ cs) (negsuc n ∷ es) ≡ true → ⊥
-no_room i n cs es h =
-    let a = both_true (leb 0 i && false) (is_within cs es) h in
-    let b = both_true (leb 0 i) false a.0 in
-    let f : false ≡ true = b.1 in cc
-
-pub within_from : (es c : List ℤ) → is_within c es ≡ true → Within es c
-within_from [] [] h = tt
-within_from [] (i ∷ c) h = let e : false ≡ true = h in cc
-within_from (e ∷ es) [] h = let f : false ≡ true = h in cc
-within_from (pos n ∷ es) (pos i ∷ c) h = let k = inside i n c es h in ((i, refl, k.0), within_from es c k.1)
-within_from (negsuc n ∷ es) (pos i ∷ c) h = absurd (no_room i n c es h)
-within_from (e ∷ es) (negsuc i ∷ c) h = absurd (not_inside i e c es h)
 
 pub all_within : (arrays : List Array) (list : List Access) → Clean (extents_at arrays) list → AllWithin arrays list
 all_within arrays [] h = tt
@@ -73,7 +37,7 @@ clean_is arrays (x ∷ xs) h (suc q) l = clean_is arrays xs h.1 q (omega arith)
 -- a test of the whole list
 pub all_tested : (arrays : List Array) (list : List Access) → list_all (λ (a : Access). is_within a.cell (extents_at arrays a.array)) list ≡ true → AllWithin arrays list
 all_tested arrays [] h = tt
-all_tested arrays (x ∷ xs) h = let k = both_true (is_within x.cell (extents_at arrays x.array)) (list_all (λ (a : Access). is_within a.cell (extents_at arrays a.array)) xs) h in
+all_tested arrays (x ∷ xs) h = let k = and_parts (is_within x.cell (extents_at arrays x.array)) (list_all (λ (a : Access). is_within a.cell (extents_at arrays a.array)) xs) h in
     (k.0, all_tested arrays xs k.1)
 
 -- ---- arrays by name

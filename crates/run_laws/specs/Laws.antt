@@ -1,17 +1,16 @@
 -- The laws of a source's run, each as one statement.
-use Rattle.std.specs.Prelude.{◌≡◌, ◌<◌, ◌≤ℤ◌, true, List, ◌++◌, length, ℤ, Some, None, slice_get}
+use Rattle.std.specs.Prelude.{◌≡◌, ◌≤ℤ◌, true, List, ◌++◌, length, ℤ, None}
 use Rattle.c_tree.specs.Plain.{PlainStmts, PlainUnit}
 use Rattle.c_tree.specs.Values.{Vars, loop_values}
-use Rattle.c_tree.specs.Arrays.{Array, Memory, words_from, extents_at, vars_of, is_within, all_cells, cell_count, index_of}
+use Rattle.c_tree.specs.Arrays.{Array, Memory, words_from, extents_at, vars_of}
 use Rattle.c_tree.specs.Accesses.{Clean}
 use Rattle.c_tree.specs.Instances.{Store, untagged, core_of, instances_all, applied, accesses, source_output}
-use Rattle.c_tree.specs.Inputs.{PlainInputs, arrays_for, memory_for, Fit, IsClean}
+use Rattle.c_tree.specs.Inputs.{PlainInputs, arrays_for, memory_for, IsClean}
 use Rattle.c_tree.specs.Run.{Event, State, Outcome, goes_on, Run, ◌>>◌, Scope, over, exec_all, plain, Ended, run}
 use Rattle.c_tree.specs.declared.expr.Rel.TheVariants.{Lt}
 use Rattle.balance_laws.specs.Replay.{Replays, left_after}
 use Rattle.balance_laws.specs.Totals.{ReadsLastWriter}
 use Rattle.run_laws.specs.Logs.{accesses_in, values_in}
-use Rattle.run_laws.specs.Rows.{row_major}
 use Rattle.run_laws.specs.Sources.{AreSource}
 
 -- memory and scalars of a state
@@ -54,23 +53,10 @@ IsSourceFor u ns = (u.version ≡ None) × AreSource (arrays_for u ns) u.wides u
 abbrev pub UnitsFollow : Type 0
 UnitsFollow = (u : PlainUnit) (i : PlainInputs) → IsSourceFor u i.ints → IsClean u i → RunsThrough u i (run u i None)
 
--- ---- loops and cells
+-- ---- loops
 
 -- from every state and for every body, a loop over the values from lo on and below hi is the loop over those below mid
 -- and then the loop over those from mid on
 abbrev pub LoopsInPieces : Type 0
 LoopsInPieces = (f : ℤ → Run (Unit {0})) (lo mid hi : ℤ) (s : State) → lo ≤ℤ mid → mid ≤ℤ hi →
     over f (loop_values lo Lt hi) s ≡ (over f (loop_values lo Lt mid) >> over f (loop_values mid Lt hi)) s
-
--- the row-major number of a cell is its place in the list of all cells
-pub record IsNumbered (extents cell : List ℤ) : Type 0 where
-  pub below : row_major extents cell < cell_count extents
-  pub stands : slice_get (all_cells extents) (row_major extents cell) ≡ Some cell
-  pub found : index_of (all_cells extents) cell ≡ row_major extents cell
-
-abbrev pub CellsAreRowMajor : Type 0
-CellsAreRowMajor = (extents cell : List ℤ) → is_within cell extents ≡ true → IsNumbered extents cell
-
--- the memory of the inputs has their words
-abbrev pub MemoryHasInputs : Type 0
-MemoryHasInputs = (u : PlainUnit) (i : PlainInputs) → Fit u i → words_from (memory_for u i) 0 (arrays_for u i.ints) ≡ i.cells

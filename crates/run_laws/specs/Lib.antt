@@ -1,4 +1,3 @@
 pub mod Laws
 pub mod Logs
 pub mod Sources
-pub mod Rows

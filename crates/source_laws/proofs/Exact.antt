@@ -13,7 +13,7 @@ use Rattle.acceptance.specs.Parts.{has_signed, subscript_holds, subscripts_hold,
 use Rattle.acceptance.specs.Trees.{IsTree, IsInner, AreInner}
 use Rattle.accepted_laws.proofs.Clear.{Clear, all_front, all_back, tables_same}
 use Rattle.source_laws.specs.Exact.{IsSubscriptExact, AreSubscriptsExact, ArePartsExact, IsExactStmt, AreExactStmts}
-use Rattle.source_laws.proofs.Intervals.{signed_exact}
+use Rattle.interval_laws.proofs.Intervals.{signed_exact}
 use Rattle.source_laws.proofs.Expressions.{affine_signed, signed_named}
 use Rattle.source_laws.proofs.Values.{all_inside, around, IsPlace, LoopIs, loop_is}
 

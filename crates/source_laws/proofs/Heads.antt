@@ -1,5 +1,5 @@
 -- The head of an accepted source: its names are its own, its parameters lie in their ranges, and no extent wraps.
-use Rattle.std.proofs.Common.{◌≡◌, ◌⊎◌, inl, inr, pos, negsuc, ◌+◌, ◌*◌, ◌++◌, ◌&&◌, ◌≤ℤ◌, ℕ, suc, ◌<◌, ◌≤◌, ◌^◌, Bool, true, false, cond, ◌||◌, List, [], ◌∷◌, map, length, ℤ, Some, refl, sym, ap, ◌∙◌, subst, arith, true≢false}
+use Rattle.std.proofs.Common.{◌≡◌, inl, inr, pos, negsuc, ◌+◌, ◌*◌, ◌++◌, ◌&&◌, ◌≤ℤ◌, ℕ, suc, ◌<◌, ◌≤◌, ◌^◌, Bool, true, false, cond, ◌||◌, List, [], ◌∷◌, length, ℤ, refl, sym, ap, ◌∙◌, subst, arith, true≢false}
 use Rattle.std.specs.Prelude.{bytes_eq, int_lt, int_le, neg_ℤ}
 use Rattle.std.proofs.lemmas.Int.{ints}
 use Rattle.std.proofs.Math.Nat.{le-mul_of_pos_right, mul_comm}
@@ -9,10 +9,10 @@ use Rattle.std.proofs.lemmas.List.Folds.{list_all-append}
 use Rattle.std.proofs.lemmas.Slice.Eq.{bytes_eq-Decides}
 use Rattle.c_tree.specs.Plain.{Word, PlainExpr, lit, var, cell, un, bin, cast, test, umin, umax, least, greatest, widen, big, PlainExprs, no_exprs, more_exprs, PlainStmts, PlainParam, int_param, array_param, PlainUnit}
 use Rattle.c_tree.specs.Names.{is_among}
-use Rattle.c_tree.specs.Values.{Vars, value_in, is_in, exact}
+use Rattle.c_tree.specs.Values.{Vars, is_in, exact}
 use Rattle.c_tree.specs.Arrays.{Array, size_of, cell_count, arrays_of, extents_at, vars_of, extents_of}
 use Rattle.c_tree.specs.Instances.{literal_of}
-use Rattle.c_tree.specs.Inputs.{range_of, IsBetween, AreInRange, HaveCells}
+use Rattle.c_tree.specs.Inputs.{AreInRange, HaveCells}
 use Rattle.c_tree.specs.Reserved.{is_reserved}
 use Rattle.instrumentation.specs.Guarded.{arrays_with_extents, array_names, extents_of as declared_extents}
 use Rattle.instrumentation_laws.specs.OwnNames.{own, AllMayLoop}
@@ -22,12 +22,13 @@ use Rattle.instrumentation_laws.proofs.Names.{apart_by, own_may}
 use Rattle.pass_laws.specs.Countable.{AreOwn}
 use Rattle.pass_laws.specs.Laws.{HaveRanks}
 use Rattle.acceptance.specs.Items.{scope_of, is_int, is_param, param_name, is_scalar, is_declared}
-use Rattle.acceptance.specs.Affine.{is_affine, holds_throughout, lies_in, Intervals, interval_in, interval, is_narrow}
+use Rattle.acceptance.specs.Affine.{is_affine, holds_throughout, lies_in, interval, is_narrow}
 use Rattle.acceptance.specs.Head.{list_of, extents_in, intervals_of, head_scope, params_twice, words_twice, wides_twice}
 use Rattle.acceptance.specs.Limits.{int_count, array_count}
 use Rattle.acceptance.specs.Trees.{IsSourceTree, AreParams, AreWords}
-use Rattle.source_laws.proofs.Products.{Within}
-use Rattle.source_laws.proofs.Intervals.{Suits, exact_within, signed_exact}
+use Rattle.interval_laws.specs.Laws.{Within, Suits}
+use Rattle.interval_laws.proofs.Intervals.{exact_within, signed_exact}
+use Rattle.interval_laws.proofs.Parameters.{value_within}
 use Rattle.accepted_laws.proofs.Accepted.{same_count}
 use Rattle.accepted_laws.proofs.Clear.{Unrefused}
 use Rattle.source_laws.proofs.Expressions.{Stands, affine_own, affine_countable, rank_is, extents_long}
@@ -36,33 +37,6 @@ use Rattle.inspection_laws.specs.Walked.{AreExtents}
 use Rattle.inspection_laws.specs.CountedUnits.{HaveExtents, AllOwn}
 
 -- ---- the parameters' values
-
--- the intervals of range lines
-abbrev lines : List (Word × ℤ × ℤ) → Intervals
-lines = map (λ r. (r.0, (r.1, r.2)))
-
-range_within : (rs : List (Word × ℤ × ℤ)) (x : Word) (n : ℤ) → IsBetween (range_of rs x) n → Within (interval_in (lines rs) x) n
-range_within [] x n h = absurd h
-range_within (r ∷ rs) x n h = chosen (bytes_eq r.0 x) h (range_within rs x n)
-  where
-    chosen : (b : Bool) → IsBetween (cond b (Some (r.1, r.2)) (range_of rs x)) n → (IsBetween (range_of rs x) n → Within (interval_in (lines rs) x) n)
-        → Within (cond b (r.1, r.2) (interval_in (lines rs) x)) n
-    chosen true h f = record { low = h.0; high = h.1 }
-    chosen false h f = f h
-
--- the value of each `int64_t` parameter lies in the interval of its range line
-value_within : (rs : List (Word × ℤ × ℤ)) (ps : List PlainParam) (ns : List ℤ) → AreInRange rs ps ns → (x : Word) → is_int ps x ≡ true
-    → Within (interval_in (lines rs) x) (value_in (vars_of ps ns) x)
-value_within rs [] [] h x e = absurd (true≢false (sym e))
-value_within rs [] (n ∷ ns) h x e = absurd h
-value_within rs (array_param y constant extents ∷ ps) ns h x e = value_within rs ps ns h x e
-value_within rs (int_param y ∷ ps) [] h x e = absurd h
-value_within rs (int_param y ∷ ps) (n ∷ ns) h x e = chosen (bytes_eq y x) refl e (value_within rs ps ns h.1 x)
-  where
-    chosen : (b : Bool) → bytes_eq y x ≡ b → (b || is_int ps x) ≡ true → (is_int ps x ≡ true → Within (interval_in (lines rs) x) (value_in (vars_of ps ns) x))
-        → Within (interval_in (lines rs) x) (cond b n (value_in (vars_of ps ns) x))
-    chosen true same g f = range_within rs x n (subst (λ w. IsBetween (range_of rs w) n) ((bytes_eq-Decides y x).0 same) h.0)
-    chosen false same g f = f g
 
 -- the names of the values are the parameters
 params_in : (ps : List PlainParam) (ns : List ℤ) (x : Word) → is_in (vars_of ps ns) x ≡ is_int ps x

@@ -1,27 +1,24 @@
 -- Index arrays of an accepted source: they are constant, no array is read through itself, and none is written.
-use Rattle.std.proofs.Common.{◌≡◌, ◌≢◌, ℕ, zero, suc, ◌+◌, ◌<◌, ◌≤◌, ◌^◌, Bool, true, false, not, ◌&&◌, ◌||◌, ◌==◌, List, [], ◌∷◌, ◌++◌, map, length, refl, sym, ap, ◌∙◌, subst, arith, inl, inr, true≢false, eqb-true, eq-eqb, Option, Some, None}
-use Rattle.std.specs.Prelude.{bytes_eq, nat_eq, slice_get, slice_index_or}
+use Rattle.std.proofs.Common.{◌≡◌, ◌≢◌, ℕ, zero, suc, ◌+◌, ◌≤◌, Bool, true, false, not, ◌&&◌, ◌||◌, ◌==◌, List, [], ◌∷◌, ◌++◌, length, refl, sym, ap, ◌∙◌, subst, arith, inl, inr, true≢false, eqb-true, eq-eqb, Option, Some, None}
+use Rattle.std.specs.Prelude.{bytes_eq, nat_eq, slice_get}
 use Rattle.std.specs.List.{AllByRecursion}
 use Rattle.std.proofs.lemmas.Bool.{and_parts, and_from, or_parts, or_left, or_right, cases_Bool, not-true}
 use Rattle.std.proofs.lemmas.Slice.Eq.{bytes_eq-Decides}
 use Rattle.c_tree.specs.Plain.{Word, PlainExpr, lit, var, cell, un, bin, cast, test, umin, umax, least, greatest, widen, big, PlainExprs, no_exprs, more_exprs, PlainStmt, loop, choice, assign, table, begin, check, verdict, PlainStmts, no_stmts, more_stmts, PlainParam, int_param, array_param, PlainUnit}
-use Rattle.c_tree.specs.Names.{is_among}
 use Rattle.c_tree.specs.Accesses.{Access, at, nowhere}
 use Rattle.c_tree.specs.Instances.{Tagged, untagged}
 use Rattle.c_tree.specs.declared.expr.BinOp.{BinOp}
-use Rattle.instrumentation.specs.Subscripts.{by_cell, is_cell}
 use Rattle.instrumentation.specs.Body.{full}
 use Rattle.instrumentation.specs.Names.{number_in}
 use Rattle.instrumentation.specs.Guarded.{array_names}
-use Rattle.instrumentation.proofs.Subscripts.{cell_or_not, not_by_cell}
 use Rattle.instrumentation_laws.specs.Kept.{Trust}
-use Rattle.instrumentation_laws.specs.Trusts.{IsSteadyAt, AllSteady, TrustsExpr, TrustsTarget, Trusts, TrustsAll}
+use Rattle.instrumentation_laws.specs.Trusts.{AllSteady, TrustsExpr, TrustsTarget, Trusts, TrustsAll}
 use Rattle.pass_laws.specs.Targets.{targets, targets_all, target_in, target_at}
 use Rattle.guard_laws.specs.IndexArrays.{indexed_by, reads_through, indexes, indexes_all, is_index_array}
-use Rattle.acceptance.specs.Items.{Item, Loop, items, items_all, tables_after, scope_of, is_array, is_int, is_loop}
+use Rattle.acceptance.specs.Items.{Loop, items, items_all, tables_after, scope_of, is_array, is_int, is_loop}
 use Rattle.acceptance.specs.Head.{list_of}
 use Rattle.acceptance.specs.Printed.{dimensions, fits_dimensions, all_fit_dimensions}
-use Rattle.acceptance.specs.Parts.{cells_hold, are_regular}
+use Rattle.acceptance.specs.Parts.{cells_hold}
 use Rattle.acceptance.specs.Trees.{IsTree, AreTrees, AreSubscripts, IsInner, AreInner}
 use Rattle.acceptance.specs.Sources.{is_const_array, are_indexed}
 use Rattle.acceptance_laws.proofs.Totals.{array_named}

@@ -1,8 +1,6 @@
 pub mod Exact
 pub mod Expressions
 pub mod Heads
-pub mod Intervals
-pub mod Products
 pub mod Sources
 pub mod Statements
 pub mod Units

@@ -1,5 +1,5 @@
 -- The statements of an accepted source have the forms that the laws ask, whatever values their loops have.
-use Rattle.std.proofs.Common.{◌≡◌, ◌⊎◌, inl, inr, ℕ, suc, ◌+◌, ◌<◌, ◌≤◌, ◌^◌, Bool, true, false, not, ◌&&◌, ◌||◌, List, [], ◌∷◌, length, ℤ, pos, Option, Some, None, refl, sym, ap, ◌∙◌, subst, arith, true≢false, eqb-true, eq-eqb}
+use Rattle.std.proofs.Common.{◌≡◌, inl, inr, ℕ, suc, ◌+◌, ◌<◌, ◌≤◌, ◌^◌, Bool, true, false, not, ◌&&◌, ◌||◌, List, [], ◌∷◌, length, ℤ, pos, Option, Some, None, refl, sym, ap, ◌∙◌, subst, arith, true≢false, eqb-true, eq-eqb}
 use Rattle.std.proofs.lemmas.Bool.{and_parts, and_from, or_parts, or_left, or_right, cases_Bool}
 use Rattle.std.proofs.lemmas.Int.{ints}
 use Rattle.std.proofs.lemmas.Slice.Eq.{bytes_eq-Decides}
@@ -7,8 +7,7 @@ use Rattle.std.proofs.Math.Nat.{mod-eq_of_lt}
 use Rattle.std.specs.Prelude.{bytes_eq, nat_eq, neg_ℤ, int_le}
 use Rattle.std.specs.List.{AllByRecursion, list_all}
 use Rattle.c_tree.specs.Plain.{Word, PlainExpr, lit, var, cell, un, bin, cast, test, umin, umax, least, greatest, widen, big, PlainExprs, no_exprs, more_exprs, PlainTest, PlainStmt, loop, choice, assign, table, begin, check, verdict, PlainStmts, no_stmts, more_stmts, PlainParam, int_param, array_param, PlainUnit}
-use Rattle.c_tree.specs.Values.{Vars, value_in, signed_bin, signed, exact, as_word, kind}
-use Rattle.c_tree.specs.Kinds.{is_signed}
+use Rattle.c_tree.specs.Values.{Vars, value_in, signed, exact, as_word, kind}
 use Rattle.c_tree.specs.Arrays.{Array, size_of, array_from, arrays_of, extents_of}
 use Rattle.c_tree.specs.Reserved.{is_reserved}
 use Rattle.c_tree.specs.declared.expr.UnOp.{UnOp}
@@ -24,17 +23,16 @@ use Rattle.instrumentation_laws.specs.OwnNames.{own}
 use Rattle.instrumentation_laws.specs.RegularSources as regular
 use Rattle.instrumentation_laws.specs.Sources as general
 use Rattle.pass_laws.specs.Countable as countable
-use Rattle.inspection_laws.specs.Walked.{names_any, IsConstant, IsWordable, IsKnown, ArePlainAt, IsWalkedAt, AreWalkedAt, IsWalkedData, IsWalkedTarget, IsWalked, AreWalked}
+use Rattle.inspection_laws.specs.Walked.{names_any, IsConstant, IsWordable, IsKnown, ArePlainAt, IsWalkedAt, AreWalkedAt, IsWalkedData, IsWalked, AreWalked}
 use Rattle.acceptance.specs.Items.{Loop, Item, items, items_all, tables_after, Scope, scope_of, is_loop, is_int, is_param, is_declared, is_known, is_signed_name}
-use Rattle.acceptance.specs.Affine.{has_name, is_affine_un, is_affine_bin, is_affine, holds_throughout, lies_in, Intervals, interval, is_narrow}
+use Rattle.acceptance.specs.Affine.{has_name, is_affine_un, is_affine_bin, is_affine, holds_throughout, lies_in, Intervals, is_narrow}
 use Rattle.acceptance.specs.Head.{list_of, uses_known, intervals_of, head_scope}
 use Rattle.acceptance.specs.Printed.{dimensions, fits_dimensions, all_fit_dimensions, tests_fit, literals_fit}
 use Rattle.acceptance.specs.Parts.{subscript_holds, subscripts_hold, parts_hold, is_cell, are_regular, intervals_in}
 use Rattle.acceptance.specs.Limits.{cells_in, reads_to}
-use Rattle.acceptance.specs.Trees.{IsTree, AreTrees, AreSubscripts, is_assigning, IsInner, AreInner}
+use Rattle.acceptance.specs.Trees.{IsTree, AreTrees, AreSubscripts, IsInner, AreInner}
 use Rattle.accepted_laws.proofs.Accepted.{few_full}
 use Rattle.accepted_laws.proofs.Clear.{Clear, all_front, all_back, tables_same}
-use Rattle.accepted_laws.proofs.Places.{assigning_side}
 use Rattle.source_laws.proofs.Expressions.{Stands, stands_inside, its_arrays, its_number, IsCell, cell_is, rank_is, extents_long, affine_countable, affine_silent, affine_no_word, signed_own, signed_named, all_countable, all_regular, IsAsked, no_word_join, asked_bin, asked_test, asked_umin, asked_umax, CastIs, of_affine, of_data, cast_is}
 
 pub reserved_own : (x : Word) → is_reserved x ≡ false → own x ≡ true

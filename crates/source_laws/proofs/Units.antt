@@ -1,6 +1,6 @@
 -- An accepted source has what the laws of runs and of instrumented units ask.
 use Rattle.std.proofs.Common.{◌≡◌, ℕ, true, false, List, [], ℤ, refl, sym, ap, ◌∙◌, subst, append-nil, inl, inr, Some, true≢false}
-use Rattle.std.specs.Prelude.{slice_get, Bool}
+use Rattle.std.specs.Prelude.{slice_get}
 use Rattle.std.specs.List.{AllByRecursion, list_all}
 use Rattle.std.proofs.lemmas.Bool.{not-false, cases_Bool}
 use Rattle.c_tree.specs.Plain.{PlainUnit}
@@ -8,7 +8,7 @@ use Rattle.c_tree.specs.Values.{Vars}
 use Rattle.c_tree.specs.Arrays.{vars_of}
 use Rattle.c_tree.specs.Accesses.{Access, at}
 use Rattle.c_tree.specs.Instances.{Tagged, untagged, core, accesses}
-use Rattle.c_tree.specs.Inputs.{PlainInputs, arrays_for, memory_for, AreInRange, Fit, IsClean}
+use Rattle.c_tree.specs.Inputs.{PlainInputs, arrays_for, memory_for, AreInRange, Fit}
 use Rattle.run_laws.specs.Sources.{IsExact}
 use Rattle.instrumentation_laws.specs.ExactSources.{AreExactSource, ExactListsAreOne, ExactSourcesFollow}
 use Rattle.instrumentation_laws.specs.IndexedList.{tagged_all}

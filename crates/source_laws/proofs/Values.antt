@@ -15,8 +15,8 @@ use Rattle.acceptance.specs.Affine.{is_affine, holds_throughout, Interval, Inter
 use Rattle.acceptance.specs.Head.{intervals_of}
 use Rattle.acceptance.specs.Parts.{loop_interval, intervals_in}
 use Rattle.accepted_laws.proofs.Clear.{Clear}
-use Rattle.source_laws.proofs.Products.{Within}
-use Rattle.source_laws.proofs.Intervals.{Suits, exact_within, signed_exact}
+use Rattle.interval_laws.specs.Laws.{Within, Suits}
+use Rattle.interval_laws.proofs.Intervals.{exact_within, signed_exact}
 use Rattle.source_laws.proofs.Expressions.{Stands, stands_inside}
 use Rattle.source_laws.proofs.Statements.{reserved_own}
 

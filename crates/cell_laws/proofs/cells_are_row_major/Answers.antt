@@ -1,9 +1,9 @@
 use Rattle.c_tree.specs.Arrays.{all_cells}
 use Rattle.c_tree.specs.Inputs.{arrays_for}
-use Rattle.run_laws.specs.Rows.{row_major}
-use Rattle.run_laws.proofs.Rows.{row_major_below, get-all_cells}
-use Rattle.run_laws.proofs.Cells.{cells_apart, index_is, memory_has}
-use Rattle.run_laws.proofs.cells_are_row_major.Goals as goal
+use Rattle.cell_laws.specs.Rows.{row_major}
+use Rattle.cell_laws.proofs.Rows.{row_major_below, get-all_cells}
+use Rattle.cell_laws.proofs.Cells.{cells_apart, index_is, memory_has}
+use Rattle.cell_laws.proofs.cells_are_row_major.Goals as goal
 
 pub returns-clause-numbers : goal.returns-clause-numbers
 returns-clause-numbers c = λ extents cell within. let stands = get-all_cells extents cell within in record {

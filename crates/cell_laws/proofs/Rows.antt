@@ -5,8 +5,8 @@ use Rattle.std.proofs.lemmas.Int.{ints}
 use Rattle.std.proofs.lemmas.Nat.{mul-add-lt}
 use Rattle.c_tree.specs.Values.{from_on}
 use Rattle.c_tree.specs.Arrays.{all_cells, cell_count, size_of, is_within}
-use Rattle.run_laws.specs.Rows.{row_major}
-use Rattle.run_laws.proofs.Within.{inside, not_inside, no_room}
+use Rattle.cell_laws.specs.Rows.{row_major}
+use Rattle.cell_laws.proofs.Within.{inside, not_inside, no_room}
 
 length-from_on : (z : ℤ) (n : ℕ) → length (from_on z n) ≡ n
 length-from_on z zero = refl

@@ -7,8 +7,8 @@ use Rattle.std.proofs.lemmas.Int.{ints}
 use Rattle.c_tree.specs.Values.{from_on}
 use Rattle.c_tree.specs.Arrays.{Array, Memory, same_cell, all_cells, size_of, index_of, words_of, words_from, memory_of}
 use Rattle.c_tree.specs.Inputs.{HaveCells}
-use Rattle.balance_laws.proofs.Latest.{same_cell_refl}
-use Rattle.run_laws.proofs.Rows.{length-all_cells}
+use Rattle.cell_laws.proofs.SameCell.{same_cell_refl}
+use Rattle.cell_laws.proofs.Rows.{length-all_cells}
 
 -- a cell differs from each of a list
 abbrev IsApart : List ℤ → List (List ℤ) → Type 0

@@ -4,13 +4,14 @@ use Rattle.std.proofs.lemmas.Bool.{and_parts}
 use Rattle.std.specs.Prelude.{int_le}
 use Rattle.std.specs.Int.{int_wrap, w64}
 use Rattle.std.proofs.lemmas.Int.{ints, int_wrap_fits}
-use Rattle.c_tree.specs.Plain.{Word, PlainExpr, lit, var, un, bin}
-use Rattle.c_tree.specs.Values.{Vars, value_in, signed_bin, signed, exact}
+use Rattle.c_tree.specs.Plain.{PlainExpr, lit, var, un, bin}
+use Rattle.c_tree.specs.Values.{Vars, signed_bin, signed, exact}
 use Rattle.c_tree.specs.declared.expr.BinOp.{BinOp}
 use Rattle.c_tree.specs.declared.expr.BinOp.TheVariants.{Add, Sub, Mul}
-use Rattle.acceptance.specs.Items.{Scope, is_signed_name}
-use Rattle.acceptance.specs.Affine.{has_name, is_affine_un, is_affine_bin, is_affine, holds_throughout, lies_in, Interval, Intervals, interval_in, interval_bin, interval, is_narrow}
-use Rattle.source_laws.proofs.Products.{Within, product_within}
+use Rattle.acceptance.specs.Items.{Scope}
+use Rattle.acceptance.specs.Affine.{has_name, is_affine_un, is_affine_bin, is_affine, holds_throughout, lies_in, Interval, Intervals, interval_bin, interval, is_narrow}
+use Rattle.interval_laws.specs.Laws.{Within, Suits}
+use Rattle.interval_laws.proofs.Products.{product_within}
 
 bin_within : (op : BinOp) (n m : Bool) (i j : Interval) (a b : ℤ) → is_affine_bin op n m ≡ true → Within i a → Within j b → Within (interval_bin op i j) (signed_bin op a b)
 bin_within Add n m i j a b e p q = let f = p.low in let g = p.high in let h = q.low in let k = q.high in record { low = omega (arith, ints); high = omega (arith, ints) }
@@ -22,10 +23,6 @@ pub fits_narrow : (i : Interval) (z : ℤ) → Within i z → (lies_in (pos (2 ^
 fits_narrow i z p e = let f = p.low in let g = p.high in
     let a = (and_parts (int_le (neg_ℤ (pos (2 ^ 62))) i.0) (int_le i.0 (pos (2 ^ 62))) (and_parts (lies_in (pos (2 ^ 62)) i.0) (lies_in (pos (2 ^ 62)) i.1) e).0).0 in
     let b = (and_parts (int_le (neg_ℤ (pos (2 ^ 62))) i.1) (int_le i.1 (pos (2 ^ 62))) (and_parts (lies_in (pos (2 ^ 62)) i.0) (lies_in (pos (2 ^ 62)) i.1) e).1).1 in omega (arith, ints)
-
--- the value of each signed name lies in its interval
-pub record Suits (rs : Intervals) (sc : Scope) (vs : Vars) : Type 0 where
-  pub within : (x : Word) → is_signed_name sc x ≡ true → Within (interval_in rs x) (value_in vs x)
 
 module _ (rs : Intervals) (sc : Scope) (vs : Vars) (s : Suits rs sc vs) where
   pub exact_within : (e : PlainExpr) → is_affine sc e ≡ true → Within (interval rs e) (exact e vs)

@@ -1,0 +1,4 @@
+pub mod SameCell
+pub mod Within
+pub mod Rows
+pub mod Cells
