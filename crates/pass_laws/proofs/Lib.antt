@@ -22,6 +22,7 @@ pub mod Pieces
 pub mod Evaluated
 pub mod Steady
 pub mod SourceTurns
+pub mod PrologueTurns
 pub mod TextTurns
 pub mod Tables
 pub mod Sample

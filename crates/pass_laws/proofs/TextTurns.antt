@@ -1,18 +1,18 @@
 -- The turns of a whole instrumented text: those of its source, once more for each write of an array, and in the prologue those of the walk over the cells of each array, with the source's for each cell.
-use Rattle.std.proofs.Common.{◌≡◌, ℕ, zero, suc, ◌+◌, ◌*◌, ◌<◌, Bool, true, false, not, ◌&&◌, cond, List, [], ◌∷◌, ◌++◌, length, map, flat_map, sum_by, refl, sym, ap, ◌∙◌, subst, arith, ℤ, pos, ◌+ℤ◌, Option, Some, None, nat_lt, if◌then◌else◌}
+use Rattle.std.proofs.Common.{◌≡◌, ℕ, suc, ◌+◌, ◌*◌, ◌<◌, Bool, true, false, not, ◌&&◌, cond, List, [], ◌∷◌, ◌++◌, length, map, flat_map, sum_by, refl, sym, ap, ◌∙◌, subst, arith, ℤ, Option, Some, None, nat_lt, if◌then◌else◌}
 use Rattle.std.proofs.lemmas.List.{get_or_append_left, get_or-append-add}
 use Rattle.std.proofs.lemmas.List.Sums.{sum_by-cons}
 use Rattle.std.specs.Prelude.{slice_index_or}
-use Rattle.c_tree.specs.Plain.{Word, PlainExpr, lit, var, cell, un, bin, cast, test, umin, umax, least, greatest, widen, big, PlainExprs, no_exprs, more_exprs, PlainStmt, loop, choice, assign, table, begin, check, verdict, PlainStmts, no_stmts, more_stmts, PlainParam, int_param, array_param}
+use Rattle.c_tree.specs.Plain.{Word, PlainExpr, lit, var, cell, un, bin, cast, test, umin, umax, least, greatest, widen, big, PlainExprs, no_exprs, more_exprs, PlainStmt, loop, choice, assign, table, begin, check, verdict, PlainStmts, no_stmts, more_stmts, PlainParam}
 use Rattle.c_tree.specs.Trees.{stmts_of}
-use Rattle.c_tree.specs.Values.{Vars, signed, as_word, loop_values, from_on}
-use Rattle.c_tree.specs.Arrays.{Array, Memory, size_of, cell_count, cell_walk, extents_of, arrays_of}
+use Rattle.c_tree.specs.Values.{Vars, signed, as_word, loop_values}
+use Rattle.c_tree.specs.Arrays.{Array, Memory, all_cells, cell_count, cell_walk, arrays_of}
+use Rattle.cell_laws.proofs.Rows.{length-all_cells}
 use Rattle.c_tree.specs.Accesses.{Access}
 use Rattle.c_tree.specs.Instances.{Tagged, untagged, sites, sites_all}
-use Rattle.c_tree.specs.Run.{State, Outcome, goes_on, ends, Run, and_then, Scope, index, done, end_as, assigned, turn, over, exec, exec_all}
+use Rattle.c_tree.specs.Run.{State, Outcome, goes_on, ends, and_then, Scope, index, done, end_as, assigned, turn, exec, exec_all}
 use Rattle.c_tree.specs.declared.expr.BinOp.{BinOp}
-use Rattle.c_tree.specs.declared.expr.Rel.TheVariants.{Lt}
-use Rattle.instrumentation.specs.Names.{result, register, coordinate}
+use Rattle.instrumentation.specs.Names.{result, register}
 use Rattle.instrumentation.specs.Body.{reads_in, full, load_text, index_loads, index_checks, by_words, loads_text, pure, add_text, assigned_text, instrument, instrument_all}
 use Rattle.instrumentation.specs.Subscripts.{indices_in}
 use Rattle.instrumentation.proofs.Subscripts.{cell_or_not, not_by_cell}
@@ -20,15 +20,13 @@ use Rattle.instrumentation.specs.Inspects.{inspects_all}
 use Rattle.instrumentation.specs.Passes.{Target, pass_text, coordinates_from}
 use Rattle.instrumentation.specs.Tables.{initial, at_write}
 use Rattle.instrumentation.specs.Pieces.{initial_piece, site_piece, site_pieces_all, piece_at}
-use Rattle.instrumentation.specs.Prologue.{add_cell, cell_loops, cell_text, array_text, prologue_text}
+use Rattle.instrumentation.specs.Prologue.{prologue_text}
 use Rattle.instrumentation.specs.Guarded.{arrays_with_extents}
 use Rattle.instrumentation_laws.specs.AccessList.{cell_access, cell_write, tag, tests_hold}
 use Rattle.instrumentation_laws.specs.IndexedList.{index_reads, read_access, all_reads, tagged, tagged_all}
-use Rattle.instrumentation_laws.specs.PrologueTotals.{coordinate_vars, Measures}
+use Rattle.instrumentation_laws.specs.PrologueTotals.{cell_sum, coordinate_vars}
 use Rattle.instrumentation_laws.specs.RegularUnits.{AreMeasured}
-use Rattle.instrumentation_laws.proofs.CellLoops.{values_are, measures_more}
-use Rattle.instrumentation_laws.proofs.Names.{coordinate_not_own}
-use Rattle.instrumentation_laws.proofs.Steps.{exec_join, exec_one, all_hold_is}
+use Rattle.instrumentation_laws.proofs.Steps.{exec_one, all_hold_is}
 use Rattle.pass_laws.specs.Countable.{AllHaveNoCells, AreOwn, IsTarget, IsCountable, AreCountable}
 use Rattle.pass_laws.specs.Going.{GoesTo, WhereGoing, HasCounters, Turned, Makes}
 use Rattle.pass_laws.specs.Places.{IsPlace}
@@ -44,6 +42,8 @@ use Rattle.pass_laws.proofs.SourceTurns.{going_then, going_weaker, spun_steady, 
 use Rattle.pass_laws.proofs.Steady.{calm_assigned}
 use Rattle.pass_laws.proofs.Steps.{affine_tests}
 use Rattle.pass_laws.proofs.Turned.{spun_none, pass_turns}
+use Rattle.pass_laws.specs.PrologueTurns.{PiecesMake, walks_with}
+use Rattle.pass_laws.proofs.PrologueTurns.{join_turns, prologue_turns}
 
 -- ---- sums
 
@@ -112,14 +112,6 @@ turns_if : (b : Bool) (n m k j t : ℕ) → cond b (n + t * k) (m + t * j) ≡ c
 turns_if true n m k j t = refl
 turns_if false n m k j t = refl
 
-sum_same : (k : ℕ) (lo : ℤ) (n : ℕ) → sum_by (λ v. suc k) (from_on lo n) ≡ n + n * k
-sum_same k lo zero = omega arith
-sum_same k lo (suc n) =
-    sum_by-cons (λ v. suc k) lo (from_on (lo +ℤ pos 1) n) ∙ (let h = sum_same k (lo +ℤ pos 1) n in ap (λ m. suc k + m) h ∙ more k n)
-  where
-    more : (k n : ℕ) → suc k + (n + n * k) ≡ suc n + suc n * k
-    more k n = grind arith
-
 -- ---- statements in a row
 
 gone : (n : ℕ) (s : State) (o : Outcome (Unit {0})) → GoesTo (Makes n s) o → WhereGoing (Makes n s) o
@@ -127,12 +119,6 @@ gone n s (goes_on u t) p = p
 gone n s (ends e t) p = absurd p
 
 module _ (sc : Scope) where
-  join_turns : (xs ys : List PlainStmt) (n m : ℕ) (vs : Vars) (s : State) → WhereGoing (Makes n s) (exec_all sc (stmts_of xs) vs s) → ((t : State) → WhereGoing (Makes m t) (exec_all sc (stmts_of ys) vs t)) →
-      WhereGoing (Makes (n + m) s) (exec_all sc (stmts_of (xs ++ ys)) vs s)
-  join_turns xs ys n m vs s h g =
-      subst (WhereGoing (Makes (n + m) s)) (sym (exec_join sc xs ys vs s))
-      (going_then (Makes n s) (Makes (n + m) s) (exec_all sc (stmts_of xs) vs s) (λ u t. exec_all sc (stmts_of ys) vs t) h (λ u t k. spun_on n m s t (exec_all sc (stmts_of ys) vs t) k (g t)))
-
   one_turns : (p : PlainStmt) (n : ℕ) (vs : Vars) (s : State) → WhereGoing (Makes n s) (exec sc p vs s) → WhereGoing (Makes n s) (exec_all sc (stmts_of (p ∷ [])) vs s)
   one_turns p n vs s h = subst (WhereGoing (Makes n s)) (sym (exec_one sc p vs s)) h
 
@@ -340,25 +326,6 @@ module _ (sc : Scope) (has : HasCounters sc.wides) (arrays : List Array) (number
 
   -- ---- the prologue
 
-  cells_turned : (body : List PlainStmt) (es : PlainExprs) (zs : List ℤ) (d : ℕ) (vs : Vars) (t : ℕ) → Measures es vs zs → ((cs : List ℤ) (s : State) → WhereGoing (Makes t s) (exec_all sc (stmts_of body) (coordinate_vars d cs vs) s)) →
-      (s : State) → WhereGoing (Makes (cell_walk zs + cell_count zs * t) s) (exec_all sc (stmts_of (cell_loops d es body)) vs s)
-  cells_turned body no_exprs [] d vs t m h s = subst (λ j. WhereGoing (Makes j s) (exec_all sc (stmts_of body) vs s)) (let e : t ≡ 0 + 1 * t = omega arith in e) (h [] s)
-  cells_turned body no_exprs (z ∷ zs) d vs t m h s = absurd m
-  cells_turned body (more_exprs e es) [] d vs t m h s = absurd m
-  cells_turned body (more_exprs e es) (z ∷ zs) d vs t m h s =
-      let inner : PlainStmts = stmts_of (cell_loops (suc d) es body) in
-      let n : ℕ = cell_walk zs + cell_count zs * t in
-      let f : ℤ → Run (Unit {0}) = λ v. λ u. and_then (turn u) (λ b. exec_all sc inner ((coordinate d, v) ∷ vs)) in
-      one_turns sc (loop (coordinate d) (lit 0) Lt e inner) _ vs s
-      (subst (λ vals. WhereGoing (Makes (cell_walk (z ∷ zs) + cell_count (z ∷ zs) * t) s) (over f vals s)) (sym (values_are e vs z m.1))
-      (subst (λ j. WhereGoing (Makes j s) (over f (from_on (pos 0) (size_of z)) s)) (sum_same n (pos 0) (size_of z) ∙ walked (size_of z) (cell_walk zs) (cell_count zs) t)
-      (over_turns sc arrays number f (λ v. suc n)
-      (λ v. body_turn sc arrays number inner ((coordinate d, v) ∷ vs) n (λ u. cells_turned body es zs (suc d) ((coordinate d, v) ∷ vs) t (measures_more es zs vs (coordinate d) v (coordinate_not_own d) m.2) (λ cs. h (v ∷ cs)) u))
-      (from_on (pos 0) (size_of z)) s)))
-    where
-      walked : (e w c t : ℕ) → e + e * (w + c * t) ≡ (e + e * w) + e * c * t
-      walked e w c t = grind arith
-
   -- the piece of an array's cells makes no turn where it takes its count from a table
   abbrev of_cell : Bool → ℕ
   of_cell b = cond b 0 of_pass
@@ -370,28 +337,34 @@ module _ (sc : Scope) (has : HasCounters sc.wides) (arrays : List Array) (number
       chosen true e = assigns_turns sc (initial a es) (tt, tt) (coordinate_vars 0 cs params) u
       chosen false e = piece_turns (record { array = a; at = coordinates_from 0 es }) None (coordinate_vars 0 cs params) u (coordinates_free arrays number whole params countable 0 es) (place_cell cs params own_params) e
 
-  array_turned : (a : ℕ) (x : Word) (es : PlainExprs) (zs : List ℤ) (s : State) → Measures es params zs → WhereGoing (Makes (cell_walk zs + cell_count zs * of_cell (insp a)) s) (exec_all sc (stmts_of (array_text a x es (initial_piece number whole a es))) params s)
-  array_turned a x es zs s m =
-      cells_turned (cell_text a x es (initial_piece number whole a es)) es zs 0 params (of_cell (insp a)) m
-      (λ cs t. subst (λ j. WhereGoing (Makes j t) (exec_all sc (stmts_of (cell_text a x es (initial_piece number whole a es))) (coordinate_vars 0 cs params) t)) (let e : 0 + (of_cell (insp a) + 0) ≡ of_cell (insp a) = omega arith in e)
-      (join_turns sc (assign (var (register 0)) None (cell x (coordinates_from 0 es)) ∷ []) (initial_piece number whole a es ++ add_cell a) 0 (of_cell (insp a) + 0) (coordinate_vars 0 cs params) t
-      (assigns_turns sc (assign (var (register 0)) None (cell x (coordinates_from 0 es)) ∷ []) (tt, tt) (coordinate_vars 0 cs params) t)
-      (λ u. join_turns sc (initial_piece number whole a es) (add_cell a) (of_cell (insp a)) 0 (coordinate_vars 0 cs params) u (initial_turns a es cs u)
-      (λ w. assigns_turns sc (add_cell a) (tt, tt) (coordinate_vars 0 cs params) w)))) s
+  each_same : (t : ℕ) (cells : List (List ℤ)) → cell_sum (λ cs. t) cells ≡ length cells * t
+  each_same t [] = omega arith
+  each_same t (c ∷ cells) = ap (λ k. t + k) (each_same t cells) ∙ more t (length cells)
+    where
+      more : (t n : ℕ) → t + n * t ≡ suc n * t
+      more t n = grind arith
 
-  walked_cells : (b : Bool) (c : ℕ) → c * of_cell b ≡ cond b 0 (c * of_pass)
-  walked_cells true c = omega arith
-  walked_cells false c = refl
+  counted_cells : (b : Bool) (c : ℕ) → c * of_cell b ≡ cond b 0 (c * of_pass)
+  counted_cells true c = omega arith
+  counted_cells false c = refl
+
+  walks_are : (a : ℕ) (list : List Array) → walks_with (λ a cs. of_cell (insp a)) a list ≡ walks_from insp of_pass a list
+  walks_are a [] = refl
+  walks_are a (x ∷ more) =
+      let all : cell_sum (λ cs. of_cell (insp a)) (all_cells x.extents) ≡ cond (insp a) 0 (cell_count x.extents * of_pass) =
+      each_same (of_cell (insp a)) (all_cells x.extents) ∙ ap (λ k. k * of_cell (insp a)) (length-all_cells x.extents) ∙ counted_cells (insp a) (cell_count x.extents) in
+      ap (λ k. (cell_walk x.extents + k) + walks_with (λ a cs. of_cell (insp a)) (suc a) more) all
+      ∙ ap (λ k. (cell_walk x.extents + cond (insp a) 0 (cell_count x.extents * of_pass)) + k) (walks_are (suc a) more)
+
+  pieces_make : (a : ℕ) (list : List (Word × PlainExprs)) → PiecesMake sc params (initial_piece number whole) (λ a cs. of_cell (insp a)) a list
+  pieces_make a [] = tt
+  pieces_make a (x ∷ more) = ((λ cs s w. initial_turns a x.1 cs s), pieces_make (suc a) more)
 
   pub prologue_turned : (a : ℕ) (ps : List PlainParam) (s : State) → AreMeasured params ps →
       WhereGoing (Makes (walks_from insp of_pass a (arrays_of params ps)) s) (exec_all sc (stmts_of (prologue_text (initial_piece number whole) a (arrays_with_extents ps))) params s)
-  prologue_turned a [] s m = spun_none s
-  prologue_turned a (int_param x ∷ ps) s m = prologue_turned a ps s m
-  prologue_turned a (array_param x constant es ∷ ps) s m =
-      let zs : List ℤ = extents_of params es in
-      join_turns sc (array_text a x es (initial_piece number whole a es)) (prologue_text (initial_piece number whole) (suc a) (arrays_with_extents ps)) (cell_walk zs + cond (insp a) 0 (cell_count zs * of_pass)) (walks_from insp of_pass (suc a) (arrays_of params ps)) params s
-      (subst (λ j. WhereGoing (Makes (cell_walk zs + j) s) (exec_all sc (stmts_of (array_text a x es (initial_piece number whole a es))) params s)) (walked_cells (insp a) (cell_count zs)) (array_turned a x es zs s m.1))
-      (λ t. prologue_turned (suc a) ps t m.3)
+  prologue_turned a ps s m =
+      subst (λ k. WhereGoing (Makes k s) (exec_all sc (stmts_of (prologue_text (initial_piece number whole) a (arrays_with_extents ps))) params s)) (walks_are a (arrays_of params ps))
+      (prologue_turns sc params (initial_piece number whole) (λ a cs. of_cell (insp a)) a ps m (pieces_make a (arrays_with_extents ps)) s)
 
 -- ---- as the laws say it
 

@@ -3,5 +3,6 @@ pub mod Going
 pub mod Places
 pub mod Targets
 pub mod Turns
+pub mod PrologueTurns
 pub mod TextTurns
 pub mod Laws
