@@ -4,7 +4,7 @@ ghost use Rattle.std.specs.Prelude.{◌≡◌, IfOk, map};
 ghost use Rattle.acceptance.specs.Sources.{IsAcceptedSource};
 ghost use Rattle.c_tree.specs.Trees.{stmt, unit};
 ghost use Rattle.count_loops.specs.Passes.{CountsUses, IsStart, IsUninspected, TurnsAsSource, pass_of};
-ghost use Rattle.unit_builder.specs.Small.{IsSmall};
+ghost use Rattle.text_parts.specs.Small.{IsSmall};
 
 use crate::numbers::assignment;
 use crate::start::Start;
@@ -14,7 +14,7 @@ use std::alloc::Global;
 use unit_builder::{cell_pass, write_pass};
 
 /// The pass of a definition of a source, as its text.
-#[tactic(auto, unfolding(unit_builder::specs::Numbered::passes_of, unit_builder::specs::Small::IsSmall))]
+#[tactic(auto, unfolding(unit_builder::specs::CellPieces::passes_of, text_parts::specs::Small::IsSmall))]
 fn pass_text(alloc: Global, source: &Unit, array: usize, start: Start) -> Result<Stmts, OutOfMemory>
     requires { IsSmall (unit source.now).body }
     ensures { IfOk result (λ made. map stmt made ≡ pass_of (unit source.now) array start) }

@@ -5,7 +5,7 @@ ghost use Rattle.c_tree.specs.Plain.{verdict};
 ghost use Rattle.c_tree.specs.Trees.{param, stmt, unit};
 ghost use Rattle.instrumentation.specs.Guarded.{arrays_with_extents};
 ghost use Rattle.instrumentation.specs.Prologue.{prologue_text};
-ghost use Rattle.unit_builder.specs.Built.{initial_pieces};
+ghost use Rattle.unit_builder.specs.CellPieces.{initial_pieces};
 
 use c_tree::{OutOfMemory, Stmt, Stmts, Unit};
 use kernel_check::Kernel;

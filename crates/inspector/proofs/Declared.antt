@@ -15,7 +15,7 @@ use Rattle.pass_laws.specs.Countable.{rank}
 use Rattle.pass_laws.specs.Laws.{HaveRanks}
 use Rattle.inspection_laws.specs.CountedUnits.{HaveExtents}
 use Rattle.inspection_laws.specs.Walked.{AreExtents}
-use Rattle.unit_builder.specs.Parts.{declared_extents}
+use Rattle.text_parts.specs.Extents.{declared_extents}
 
 or_false : (b c : Bool) → (b || c) ≡ false → (b ≡ false) × (c ≡ false)
 or_false true c e = absurd (true≢false e)

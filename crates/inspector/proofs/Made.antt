@@ -45,7 +45,7 @@ use Rattle.inspection_laws.proofs.Sized.{sized_from, place_agrees}
 use Rattle.inspection_laws.proofs.TablePieces.{or_first, value, value_is, counted_from, count_from_is, cell_silent, index_silent}
 use Rattle.guard_laws.specs.Forms.{HasForms}
 use Rattle.guard_laws.specs.IndexArrays.{is_index_array}
-use Rattle.unit_builder.specs.Parts.{declared_extents}
+use Rattle.text_parts.specs.Extents.{declared_extents}
 use Rattle.inspector.specs.Building.{scope_for, list_of, HasIndexArraysOf, misses_of, EndsExactly, Stands, Makes, MakesTables, ReadsIndexArrays, Builds}
 use Rattle.inspector.specs.Counting.{CountsInitial, SetsCount, CountsWrite, SetsCountAndWrites, IsInitial, IsAtWrite}
 use Rattle.inspector.proofs.Declared.{extents_of_it, rank_of_it}

@@ -8,7 +8,7 @@ use Rattle.instrumentation.specs.Names.{number_in}
 use Rattle.instrumentation.specs.Tables as tables
 use Rattle.sites.specs.Classes.{class_of}
 use Rattle.sites.specs.declared.class.Class.TheVariants.{Inspected}
-use Rattle.unit_builder.specs.Parts.{declared_extents}
+use Rattle.text_parts.specs.Extents.{declared_extents}
 use Rattle.inspector.specs.declared.pieces.Inspection.{Inspection}
 
 -- there is such an array, and its class is this

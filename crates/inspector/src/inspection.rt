@@ -6,13 +6,14 @@ ghost use Rattle.acceptance.specs.Sources.{IsAcceptedSource};
 ghost use Rattle.inspector.specs.Building.{Builds};
 ghost use Rattle.inspector.specs.Counting.{IsAtWrite, IsInitial};
 ghost use Rattle.inspector.specs.Inspections.{IsInspected, IsInspectionOf};
-ghost use Rattle.unit_builder.specs.Small.{IsSmall};
+ghost use Rattle.text_parts.specs.Small.{IsSmall};
 
 use crate::pieces::Inspection;
 use c_tree::{OutOfMemory, Unit};
 use kernel_check::Kernel;
 use std::alloc::Global;
-use unit_builder::{at_write, build, extents_at, initial};
+use table_builder::{at_write, build, initial};
+use text_parts::extents_at;
 
 /// The inspection of an array of a source.
 fn inspection(alloc: Global, source: &Unit, array: usize) -> Result<Inspection, OutOfMemory>

@@ -1,10 +1,5 @@
-pub mod Builds
-pub mod Dimensions
-pub mod Fronts
-pub mod Lists
 pub mod PieceCounts
-pub mod RegisterWords
-pub mod SameCell
-pub mod Small
 pub mod PieceTargets
+pub mod RegisterWords
+pub mod Small
 pub mod Unrefused

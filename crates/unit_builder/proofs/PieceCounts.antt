@@ -9,7 +9,7 @@ use Rattle.c_tree.specs.declared.stmt.Stmt.{Stmt}
 use Rattle.c_tree.specs.Instances.{sites, sites_all}
 use Rattle.instrumentation.specs.Body.{instrument_all}
 use Rattle.instrumentation.specs.Pieces.{piece_at, site_pieces, site_pieces_all}
-use Rattle.unit_builder.specs.Built.{pieces_in}
+use Rattle.text_parts.specs.Built.{pieces_in}
 
 mutual
   pub length-site_pieces : (number : Word → ℕ) (extents : Word → PlainExprs) (whole : PlainStmts) (k : ℕ) (s : PlainStmt) → length (site_pieces number extents whole k s) ≡ sites s

@@ -8,7 +8,7 @@ use Rattle.acceptance.specs.Limits.{cells_in, cells_in_all, reads_of}
 use Rattle.acceptance.specs.Sources.{IsAcceptedSource}
 use Rattle.instrumentation.specs.Subscripts.{by_cell, indices_in}
 use Rattle.instrumentation.specs.Body.{reads_in, full, registers, registers_all}
-use Rattle.unit_builder.specs.Small.{IsSmall}
+use Rattle.text_parts.specs.Small.{IsSmall}
 use Rattle.unit_builder.proofs.Unrefused.{few_assignments, few_reads}
 
 -- index cells are among the cells of a list

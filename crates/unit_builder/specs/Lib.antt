@@ -1,9 +1,2 @@
-pub mod Around
-pub mod Built
-pub mod Counted
-pub mod Numbered
+pub mod CellPieces
 pub mod Parts
-pub mod Small
-pub mod Walks
-pub mod Weight
-pub mod Words

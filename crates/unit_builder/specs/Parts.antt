@@ -1,6 +1,6 @@
 -- Single pieces of a source: that of an array, and that of an assignment by its number.
-use Rattle.std.specs.Prelude.{ℕ, zero, suc, ◌-◌, nat_lt, nat_eq, if◌then◌else◌, List, [], ◌∷◌, Option, Some, None}
-use Rattle.c_tree.specs.Plain.{Word, PlainExpr, PlainExprs, no_exprs, PlainStmt, loop, choice, assign, table, begin, check, verdict, PlainStmts, no_stmts, more_stmts}
+use Rattle.std.specs.Prelude.{ℕ, suc, ◌-◌, nat_lt, nat_eq, if◌then◌else◌, List, [], ◌∷◌, Option, Some, None}
+use Rattle.c_tree.specs.Plain.{Word, PlainExpr, PlainExprs, PlainStmt, loop, choice, assign, table, begin, check, verdict, PlainStmts, no_stmts, more_stmts}
 use Rattle.c_tree.specs.Instances.{sites, sites_all}
 use Rattle.instrumentation.specs.Passes.{write_piece}
 
@@ -8,12 +8,6 @@ use Rattle.instrumentation.specs.Passes.{write_piece}
 abbrev pub array_piece : (ℕ → PlainExprs → List PlainStmt) → ℕ → ℕ → List (Word × PlainExprs) → List PlainStmt
 array_piece piece a k [] = []
 array_piece piece a k (x ∷ more) = if nat_eq k a then piece k x.1 else array_piece piece a (suc k) more
-
--- the extents of the array of number a; none where there is no such array
-abbrev pub declared_extents : List (Word × PlainExprs) → ℕ → PlainExprs
-declared_extents [] a = no_exprs
-declared_extents (x ∷ more) zero = x.1
-declared_extents (x ∷ more) (suc a) = declared_extents more a
 
 -- the target of the assignment of number k, the assignments being numbered in text order from 0 on
 abbrev mutual

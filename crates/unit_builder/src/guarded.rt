@@ -8,23 +8,21 @@ ghost use Rattle.instrumentation.specs.Body.{instrument_all, registers_all};
 ghost use Rattle.instrumentation.specs.Guarded as guarded;
 ghost use Rattle.instrumentation.specs.Names as names;
 ghost use Rattle.instrumentation.specs.Pieces.{piece_at, site_pieces_all, table_words};
-ghost use Rattle.unit_builder.specs.Numbered.{numbers, sizes};
-ghost use Rattle.unit_builder.specs.Words.{plain_words};
-ghost use Rattle.unit_builder.specs.Small.{IsSmall};
+ghost use Rattle.text_parts.specs.Numbered.{numbers, sizes};
+ghost use Rattle.table_builder.specs.Words.{plain_words};
+ghost use Rattle.text_parts.specs.Small.{IsSmall};
 
-use crate::body::instrumented;
-use crate::counts::count_registers_of_all;
-use crate::names::{
-    active_word, counter_word, definition_total, function_name, register, stored_word, use_count,
-    use_total,
-};
 use crate::pieces::site_pieces;
 use crate::prologue::add_prologue;
-use crate::table_words::add_table_words;
-use crate::tables::add_builds;
+use body_builder::instrumented;
 use c_tree::{Copied, NameList, OutOfMemory, Param, Stmt, Stmts, Unit, Words};
 use sqlite_items::Items;
 use std::alloc::Global;
+use table_builder::{add_builds, add_table_words};
+use text_parts::{
+    active_word, count_registers_of_all, counter_word, definition_total, function_name, register,
+    stored_word, use_count, use_total,
+};
 
 /// Adds the declarations of the words that loads go to.
 fn add_registers(alloc: Global, registers: u64, words: &mut Words) -> Result<(), OutOfMemory>
@@ -88,7 +86,7 @@ fn wides(alloc: Global, params: &[Param]) -> Result<NameList, OutOfMemory>
 }
 
 /// The source's statements, instrumented.
-#[tactic(auto, unfolding(crate::specs::Small::IsSmall))]
+#[tactic(auto, unfolding(text_parts::specs::Small::IsSmall))]
 fn guarded_statements(alloc: Global, params: &[Param], whole: &Stmts) -> Result<Stmts, OutOfMemory>
     requires { IsSmall (stmts whole.now) }
     ensures { IfOk result (λ made. map stmt made ≡ instrument_all (numbers params.now) (sizes params.now)
@@ -100,7 +98,7 @@ fn guarded_statements(alloc: Global, params: &[Param], whole: &Stmts) -> Result<
 }
 
 /// The tables, the prologue, the instrumented statements and the comparison of all totals.
-#[tactic(auto, unfolding(crate::specs::Numbered::initial_of))]
+#[tactic(auto, unfolding(crate::specs::CellPieces::initial_of))]
 fn guarded_text(alloc: Global, params: &[Param], whole: &Stmts) -> Result<Stmts, OutOfMemory>
     requires { IsSmall (stmts whole.now) }
     ensures { IfOk result (λ made. map stmt made
@@ -116,7 +114,7 @@ fn guarded_text(alloc: Global, params: &[Param], whole: &Stmts) -> Result<Stmts,
 }
 
 /// The instrumented unit of a source. It fails by memory alone.
-#[tactic(auto, unfolding(crate::specs::Small::IsSmall))]
+#[tactic(auto, unfolding(text_parts::specs::Small::IsSmall))]
 pub fn instrumented_unit(alloc: Global, source: &Unit) -> Result<Unit, OutOfMemory>
     requires { IsSmall (stmts source.now.body) }
     ensures { IfOk result (λ made. unit made ≡ guarded.guarded (unit source.now)) }

@@ -10,19 +10,18 @@ ghost use Rattle.instrumentation.specs.Passes.{coordinates_from};
 ghost use Rattle.instrumentation.specs.Inspects.{inspects_all};
 ghost use Rattle.instrumentation.specs.Pieces as pieces_of;
 ghost use Rattle.instrumentation.specs.Tables as tables;
-ghost use Rattle.unit_builder.specs.Numbered.{initial_of, numbers, passes_of, sizes};
+ghost use Rattle.text_parts.specs.Numbered.{numbers, sizes};
+ghost use Rattle.unit_builder.specs.CellPieces.{initial_of, passes_of};
 ghost use Rattle.unit_builder.specs.Parts.{array_piece, pass_at};
-ghost use Rattle.unit_builder.specs.Small.{IsSmall};
+ghost use Rattle.text_parts.specs.Small.{IsSmall};
 
-use crate::counts::{count_sites, count_sites_of_all};
-use crate::inspected::is_inspected;
-use crate::names::{coordinate, extents_of, number_of};
-use crate::passes::Pass;
-use crate::tables::{at_write, initial};
 use crate::targets::target_among;
 use c_tree::{Expr, Exprs, OutOfMemory, Param, Stmt, Stmts};
+use pass_builder::Pass;
 use sqlite_items::Items;
 use std::alloc::Global;
+use table_builder::{at_write, initial, is_inspected};
+use text_parts::{coordinate, count_sites, count_sites_of_all, extents_of, number_of};
 
 /// The pass of the assignment of this number: none where it stores into no array.
 fn write_piece(
@@ -85,7 +84,7 @@ fn cell_piece(
 
 /// The piece of the initial cells of an array: from its tables where it is inspected, and else by
 /// a pass.
-#[tactic(auto, unfolding(crate::specs::Numbered::initial_of))]
+#[tactic(auto, unfolding(crate::specs::CellPieces::initial_of))]
 pub fn initial_piece(
     alloc: Global,
     params: &[Param],
@@ -204,7 +203,7 @@ fn add_all_pieces(
 }
 
 /// The pieces of all assignments of a source, in text order.
-#[tactic(auto, unfolding(crate::specs::Small::IsSmall))]
+#[tactic(auto, unfolding(text_parts::specs::Small::IsSmall))]
 pub fn site_pieces(
     alloc: Global,
     params: &[Param],
@@ -243,7 +242,7 @@ pub fn cell_pass(
 }
 
 /// The pass of the initial cells of an array.
-#[tactic(auto, unfolding(crate::specs::Numbered::passes_of))]
+#[tactic(auto, unfolding(crate::specs::CellPieces::passes_of))]
 fn numbered_pass(
     alloc: Global,
     params: &[Param],
@@ -259,7 +258,7 @@ fn numbered_pass(
 }
 
 /// The pass of the assignment of this number, none where it stores into no array.
-#[tactic(auto, unfolding(crate::specs::Small::IsSmall))]
+#[tactic(auto, unfolding(text_parts::specs::Small::IsSmall))]
 pub fn write_pass(
     alloc: Global,
     params: &[Param],

@@ -5,17 +5,17 @@ ghost use Rattle.std.specs.Prelude.{◌≡◌, ◌≤◌, ◌∷◌, [], IfOk, O
 ghost use Rattle.c_tree.specs.Trees.{exprs, param, stmt, stmts};
 ghost use Rattle.instrumentation.specs.Guarded.{arrays_with_extents};
 ghost use Rattle.instrumentation.specs.Prologue.{cell_loops, add_cell, cell_text, array_text, prologue_text};
-ghost use Rattle.unit_builder.specs.Built.{Adds, initial_pieces};
-ghost use Rattle.unit_builder.specs.Numbered.{initial_of};
-ghost use Rattle.unit_builder.specs.Small.{IsSmall};
+ghost use Rattle.text_parts.specs.Built.{Adds};
+ghost use Rattle.unit_builder.specs.CellPieces.{initial_pieces};
+ghost use Rattle.unit_builder.specs.CellPieces.{initial_of};
+ghost use Rattle.text_parts.specs.Small.{IsSmall};
 
-use crate::body::{add_piece, read_cell};
-use crate::names::{coordinate, definition_total, register, use_count};
 use crate::pieces::{coordinates, initial_piece};
-use crate::statements::{assign, only, repeat};
+use body_builder::{add_piece, read_cell};
 use c_tree::{BinOp, Expr, Name, OutOfMemory, Param, Rel, Stmt, Stmts};
 use sqlite_items::Items;
 use std::alloc::Global;
+use text_parts::{assign, coordinate, definition_total, only, register, repeat, use_count};
 
 /// A loop over the coordinates of each dimension.
 fn over_cells(alloc: Global, extents: &[Expr], body: Stmts) -> Result<Stmts, OutOfMemory>

@@ -5,8 +5,8 @@ ghost use Rattle.c_tree.specs.Trees.{expr, stmt, stmts};
 ghost use Rattle.c_tree.specs.Instances.{sites, sites_all};
 ghost use Rattle.unit_builder.specs.Parts as parts;
 
-use crate::counts::{count_sites, count_sites_of_all};
 use c_tree::{Expr, Stmt, Stmts};
+use text_parts::{count_sites, count_sites_of_all};
 
 /// The target of the assignment of this number in a statement.
 #[cycle(target_in)]

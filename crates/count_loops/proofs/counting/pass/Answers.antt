@@ -1,6 +1,6 @@
 use Rattle.std.proofs.Common.{sym, subst}
 use Rattle.c_tree.specs.Trees.{stmts, unit}
-use Rattle.unit_builder.specs.Small.{IsSmall}
+use Rattle.text_parts.specs.Small.{IsSmall}
 use Rattle.count_loops.proofs.Counted.{made_counts, made_for}
 use Rattle.count_loops.proofs.Turning.{made_turns}
 use Rattle.count_loops.proofs.counting.pass.Goals as goal

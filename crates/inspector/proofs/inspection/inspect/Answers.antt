@@ -1,6 +1,6 @@
 use Rattle.std.proofs.Common.{sym, subst}
 use Rattle.c_tree.specs.Trees.{stmts, unit}
-use Rattle.unit_builder.specs.Small.{IsSmall}
+use Rattle.text_parts.specs.Small.{IsSmall}
 use Rattle.inspector.proofs.OfUnit.{made_for, made_builds, made_initial, made_at_write}
 use Rattle.inspector.proofs.inspection.inspect.Goals as goal
 

@@ -5,7 +5,7 @@ use Rattle.acceptance.specs.Runnable.{IsRunnable}
 use Rattle.acceptance.specs.Trees.{IsPrintedTree}
 use Rattle.instrumentation.specs.Guarded.{guarded}
 use Rattle.flip_laws.specs.FaultyRuns.{TellsOfFaults}
-use Rattle.unit_builder.specs.Small.{IsSmall}
+use Rattle.text_parts.specs.Small.{IsSmall}
 use Rattle.rewrite.proofs.Made.{if_made, made_of}
 use Rattle.rewrite.proofs.unit.instrument.Goals as goal
 

@@ -1,7 +1,7 @@
 use Rattle.std.proofs.Common.{◌≡◌, ◌-◌, arith, sym, ◌∙◌}
 use Rattle.std.proofs.lemmas.Grind.{common_steps}
 use Rattle.std.proofs.lemmas.List.{append-nil}
-use Rattle.unit_builder.specs.Words.{plain_words}
+use Rattle.table_builder.specs.Words.{plain_words}
 use Rattle.unit_builder.proofs.RegisterWords.{register_words-more}
 use Rattle.unit_builder.proofs.guarded.add_registers.Goals as goal
 

@@ -1,6 +1,6 @@
 use Rattle.std.proofs.Common.{◌≡◌, ◌-◌, ◌++◌}
 use Rattle.instrumentation.specs.Guarded.{register_words}
-use Rattle.unit_builder.specs.Words.{plain_words}
+use Rattle.table_builder.specs.Words.{plain_words}
 use Rattle.unit_builder.proofs.guarded.add_registers.Given as goal
 
 abbrev pub invariant-loop-load : goal.invariant-loop-load

@@ -1,7 +1,7 @@
 use Rattle.std.proofs.Common.{◌≡◌, length, arith, ap}
 use Rattle.c_tree.specs.Trees.{stmts}
-use Rattle.unit_builder.specs.Numbered.{numbers, sizes}
-use Rattle.unit_builder.specs.Small.{IsSmall}
+use Rattle.text_parts.specs.Numbered.{numbers, sizes}
+use Rattle.text_parts.specs.Small.{IsSmall}
 use Rattle.unit_builder.proofs.PieceCounts.{enough_pieces, given_pieces}
 use Rattle.unit_builder.proofs.guarded.guarded_statements.Goals as goal
 

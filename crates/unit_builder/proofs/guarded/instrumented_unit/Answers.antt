@@ -1,7 +1,7 @@
 use Rattle.std.proofs.Common.{◌≡◌, map, rules, ap, Some}
 use Rattle.c_tree.specs.Trees.{param, stmts, unit, word}
 use Rattle.instrumentation.specs.Guarded.{guarded}
-use Rattle.unit_builder.specs.Words.{plain_words}
+use Rattle.table_builder.specs.Words.{plain_words}
 use Rattle.unit_builder.proofs.guarded.instrumented_unit.Goals as goal
 
 pub returns : goal.returns

@@ -2,8 +2,8 @@ use Rattle.std.proofs.Common.{◌≡◌, ◌+◌, ◌++◌, ◌≤◌, ◌<◌, 
 use Rattle.c_tree.specs.Trees.{stmt, stmts}
 use Rattle.c_tree.specs.Instances.{sites_all}
 use Rattle.instrumentation.specs.Pieces.{site_pieces_all}
-use Rattle.unit_builder.specs.Numbered.{numbers, sizes}
-use Rattle.unit_builder.specs.Weight.{weight, weight_all}
+use Rattle.text_parts.specs.Numbered.{numbers, sizes}
+use Rattle.text_parts.specs.Weight.{weight, weight_all}
 use Rattle.unit_builder.proofs.pieces.+site_pieces.Given as goal
 
 abbrev pub decreases-add_pieces : goal.decreases-add_pieces

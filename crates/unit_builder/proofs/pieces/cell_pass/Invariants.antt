@@ -1,7 +1,7 @@
 use Rattle.std.proofs.Common.{◌≡◌, ◌≤◌, map, drop}
 use Rattle.c_tree.specs.Trees.{param}
 use Rattle.instrumentation.specs.Guarded.{arrays_with_extents}
-use Rattle.unit_builder.specs.Numbered.{passes_of}
+use Rattle.unit_builder.specs.CellPieces.{passes_of}
 use Rattle.unit_builder.specs.Parts.{array_piece}
 use Rattle.unit_builder.proofs.pieces.cell_pass.Given as goal
 

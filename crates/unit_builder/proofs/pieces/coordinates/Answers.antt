@@ -2,7 +2,7 @@ use Rattle.std.proofs.Common.{◌≡◌, [], drop, arith}
 use Rattle.std.proofs.lemmas.List.{drop_all}
 use Rattle.c_tree.specs.Trees.{exprs}
 use Rattle.instrumentation.specs.Passes.{coordinates_from}
-use Rattle.unit_builder.proofs.Lists.{ends_expressions}
+use Rattle.text_parts.proofs.Lists.{ends_expressions}
 use Rattle.unit_builder.proofs.pieces.coordinates.Goals as goal
 
 pub returns : goal.returns

@@ -1,7 +1,7 @@
 use Rattle.std.proofs.Common.{◌≡◌, ◌++◌, map, drop}
 use Rattle.c_tree.specs.Trees.{expr, exprs}
 use Rattle.instrumentation.specs.Passes.{coordinates_from}
-use Rattle.unit_builder.proofs.Lists.{expressions_of}
+use Rattle.text_parts.proofs.Lists.{expressions_of}
 use Rattle.unit_builder.proofs.pieces.coordinates.Given as goal
 
 abbrev pub invariant-loop-dimension : goal.invariant-loop-dimension

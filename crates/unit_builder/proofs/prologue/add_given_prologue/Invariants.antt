@@ -2,7 +2,7 @@ use Rattle.std.proofs.Common.{◌≡◌, ◌+◌, ◌++◌, ◌≤◌, length, m
 use Rattle.c_tree.specs.Trees.{param, stmt}
 use Rattle.instrumentation.specs.Guarded.{arrays_with_extents}
 use Rattle.instrumentation.specs.Prologue.{prologue_text}
-use Rattle.unit_builder.specs.Built.{initial_pieces}
+use Rattle.unit_builder.specs.CellPieces.{initial_pieces}
 use Rattle.unit_builder.proofs.prologue.add_given_prologue.Given as goal
 
 abbrev pub invariant-loop-p : goal.invariant-loop-p

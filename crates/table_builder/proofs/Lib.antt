@@ -1,0 +1,4 @@
+pub mod Builds
+pub mod Dimensions
+pub mod Fronts
+pub mod IndexWords
