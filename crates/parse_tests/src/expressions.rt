@@ -1,21 +1,39 @@
 //! Right sides of assignments, each with its tree, and texts that are none.
 
-use c_tree::{Refusal, Stmt};
+use crate::made::found_in_made_body;
+use c_tree::{Expr, Refusal, Stmt, Unit};
 use sample_texts::shown::shown_expression;
-use sample_texts::texts::{Found, joined, kind_of, source};
-use std::alloc::Global;
-use std::test::Fail;
+use sample_texts::texts::{Found, joined, source};
+use std::alloc::{AllocError, Global};
+
+/// The body with this right side.
+fn assignment(alloc: Global, text: &str) -> Result<Vec<u8>, AllocError> {
+    joined(alloc, &[b"x[0] = ", text.as_bytes(), b";"])
+}
+
+/// The unit with this right side.
+fn unit_of(alloc: Global, text: &str) -> Result<Unit, Refusal> {
+    let body = assignment(alloc, text)?;
+    source(alloc, body.as_slice())
+}
+
+fn is_tree(alloc: Global, e: &Expr, tree: &str) -> bool {
+    shown_expression(alloc, e).as_slice() == tree.as_bytes()
+}
+
+fn assigns(alloc: Global, body: &[Stmt], tree: &str) -> bool {
+    match body {
+        [Stmt::Assign { value, .. }] => is_tree(alloc, value, tree),
+        _ => false,
+    }
+}
 
 /// Whether the assignment of this right side is read, and gives the tree.
-fn is_right_side(alloc: Global, text: &str, tree: &str) -> Result<bool, Refusal> {
-    let body = joined(alloc, &[b"x[0] = ", text.as_bytes(), b";"])?;
-    let unit = source(alloc, body.as_slice())?;
-    Ok(match unit.body.as_slice() {
-        [Stmt::Assign { value, .. }] => {
-            shown_expression(alloc, value).as_slice() == tree.as_bytes()
-        }
-        _ => false,
-    })
+fn is_right_side(alloc: Global, text: &str, tree: &str) -> bool {
+    match unit_of(alloc, text) {
+        Ok(unit) => assigns(alloc, unit.body.as_slice(), tree),
+        Err(_) => false,
+    }
 }
 
 const RIGHT_SIDES: [(&str, &str); 19] = [
@@ -46,12 +64,19 @@ const RIGHT_SIDES: [(&str, &str); 19] = [
     ("(uint64_t)((uint64_t)(a >= b) != c)", "(!= (>= a b) c)"),
 ];
 
-#[test]
-fn reads_right_sides(rt: HostRuntime) -> Result<(), Fail> {
-    for (text, tree) in &RIGHT_SIDES {
-        assert!(rt; is_right_side(rt.alloc(), text, tree)?, "{text}");
+/// The first right side that doesn't give its tree.
+fn first_unlike(alloc: Global, sides: &[(&'static str, &str)]) -> Option<&'static str> {
+    for (text, tree) in sides {
+        if !is_right_side(alloc, text, tree) {
+            return Some(*text);
+        }
     }
-    Ok(())
+    None
+}
+
+#[test]
+fn reads_right_sides(rt: HostRuntime) {
+    assert_eq!(rt; first_unlike(rt.alloc(), &RIGHT_SIDES), None);
 }
 
 /// A comparison under a cast stands in one pair of parentheses, no rule uses `--`, and a source has
@@ -75,12 +100,17 @@ const NO_RIGHT_SIDES: [&str; 16] = [
     "(unsigned __int128)a",
 ];
 
-#[test]
-fn refuses_right_sides(rt: HostRuntime) -> Result<(), Fail> {
-    for text in &NO_RIGHT_SIDES {
-        let body = joined(rt.alloc(), &[b"x[0] = ", text.as_bytes(), b";"])?;
-        let answer = source(rt.alloc(), body.as_slice());
-        assert_eq!(rt; kind_of(&answer), Found::NoUnit, "{text}");
+/// The first right side that isn't refused as none.
+fn first_taken(alloc: Global, sides: &[&'static str]) -> Option<&'static str> {
+    for text in sides {
+        if found_in_made_body(alloc, assignment(alloc, text)) != Found::NoUnit {
+            return Some(*text);
+        }
     }
-    Ok(())
+    None
+}
+
+#[test]
+fn refuses_right_sides(rt: HostRuntime) {
+    assert_eq!(rt; first_taken(rt.alloc(), &NO_RIGHT_SIDES), None);
 }

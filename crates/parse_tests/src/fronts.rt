@@ -2,8 +2,7 @@
 
 use c_tree::preamble;
 use sample_texts::texts::{Found, GATHER, GUARDED, found_in, joined};
-use std::alloc::Global;
-use std::test::Fail;
+use std::alloc::{AllocError, Global};
 
 /// The least front of the text that has a unit, or else the text.
 fn least_read(alloc: Global, text: &[u8]) -> &[u8] {
@@ -24,23 +23,40 @@ fn without_last(text: &[u8]) -> &[u8] {
     }
 }
 
+/// Which part of the text isn't read or refused as it should be: the whole, all but its last byte, or else
+/// the least front that is read.
+fn wrong_part(alloc: Global, text: &[u8]) -> Option<usize> {
+    let most = without_last(text);
+    if found_in(alloc, text) != Found::Unit {
+        return Some(text.len());
+    }
+    if found_in(alloc, most) != Found::Unit {
+        return Some(most.len());
+    }
+    let least = least_read(alloc, text);
+    if least == most {
+        None
+    } else {
+        Some(least.len())
+    }
+}
+
+fn wrong_part_of_made(alloc: Global, made: Result<Vec<u8>, AllocError>) -> Option<usize> {
+    match made {
+        Ok(text) => wrong_part(alloc, text.as_slice()),
+        Err(_) => Some(0),
+    }
+}
+
 /// A front of a source that lacks more than its last line feed has no tokens or no unit.
 #[test]
 fn refuses_fronts_of_a_source(rt: HostRuntime) {
-    let alloc = rt.alloc();
-    assert_eq!(rt; found_in(alloc, GATHER), Found::Unit);
-    assert_eq!(rt; least_read(alloc, GATHER), without_last(GATHER));
-    assert_eq!(rt; found_in(alloc, without_last(GATHER)), Found::Unit);
+    assert_eq!(rt; wrong_part(rt.alloc(), GATHER), None);
 }
 
 /// And so for a printed text.
 #[test]
-fn refuses_fronts_of_a_printed_text(rt: HostRuntime) -> Result<(), Fail> {
-    let alloc = rt.alloc();
-    let text = joined(alloc, &[preamble(), GUARDED])?;
-    let whole = text.as_slice();
-    assert_eq!(rt; found_in(alloc, whole), Found::Unit);
-    assert_eq!(rt; least_read(alloc, whole), without_last(whole));
-    assert_eq!(rt; found_in(alloc, without_last(whole)), Found::Unit);
-    Ok(())
+fn refuses_fronts_of_a_printed_text(rt: HostRuntime) {
+    let text = joined(rt.alloc(), &[preamble(), GUARDED]);
+    assert_eq!(rt; wrong_part_of_made(rt.alloc(), text), None);
 }

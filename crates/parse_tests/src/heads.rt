@@ -1,6 +1,7 @@
 //! What stands before a function's statements: ranges, parameters, declarations.
 
 use sample_texts::texts::{Found, found_in, is_unit};
+use std::alloc::Global;
 
 const HEADS: [(&str, &str); 5] = [
     (
@@ -25,14 +26,19 @@ const HEADS: [(&str, &str); 5] = [
     ),
 ];
 
+/// The first text that doesn't have its unit.
+fn first_unlike(alloc: Global, heads: &[(&'static str, &str)]) -> Option<&'static str> {
+    for (text, shown) in heads {
+        if !is_unit(alloc, text.as_bytes(), shown.as_bytes()) {
+            return Some(*text);
+        }
+    }
+    None
+}
+
 #[test]
 fn reads_heads(rt: HostRuntime) {
-    for (text, shown) in &HEADS {
-        assert!(rt;
-            is_unit(rt.alloc(), text.as_bytes(), shown.as_bytes()),
-            "{text}"
-        );
-    }
+    assert_eq!(rt; first_unlike(rt.alloc(), &HEADS), None);
 }
 
 const NO_HEADS: [&str; 21] = [
@@ -59,13 +65,17 @@ const NO_HEADS: [&str; 21] = [
     "void for(int64_t n) {}",
 ];
 
+/// The first text that isn't refused as no unit.
+fn first_taken(alloc: Global, heads: &[&'static str]) -> Option<&'static str> {
+    for text in heads {
+        if found_in(alloc, text.as_bytes()) != Found::NoUnit {
+            return Some(*text);
+        }
+    }
+    None
+}
+
 #[test]
 fn refuses_heads(rt: HostRuntime) {
-    for text in &NO_HEADS {
-        assert_eq!(rt;
-            found_in(rt.alloc(), text.as_bytes()),
-            Found::NoUnit,
-            "{text}"
-        );
-    }
+    assert_eq!(rt; first_taken(rt.alloc(), &NO_HEADS), None);
 }

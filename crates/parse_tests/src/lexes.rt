@@ -3,7 +3,6 @@
 use c_lexer::{LexFault, Token, TokenKind, Tokens, lex};
 use c_tree::preamble;
 use std::alloc::{AllocError, Global};
-use std::test::Fail;
 
 fn tokens_of(alloc: Global, text: &[u8]) -> Result<Tokens, LexFault> {
     if text.len() > 16777216 {
@@ -35,6 +34,153 @@ fn stops_at(alloc: Global, text: &[u8], byte: u32) -> bool {
     }
 }
 
+/// Texts with a byte that begins no token, and that byte.
+const WITHOUT: [(&[u8], u32); 27] = [
+    (b"x = 08;", 4),
+    (b"a@b", 1),
+    (b"/* open", 0),
+    (b"0xg", 0),
+    (b"5lL", 0),
+    (b"5uu", 0),
+    (b"5lul", 0),
+    (b"5a", 0),
+    (b"x 5_", 2),
+    (b"0x", 0),
+    (b"18446744073709551616", 0),
+    (b"0x10000000000000000", 0),
+    (b"aa ! b", 3),
+    (b"\"s\"", 0),
+    (b"a \xff", 2),
+    (b"# /* open", 0),
+    (b"#include <a> /* open", 13),
+    (b"#pragma omp /* open", 12),
+    (b"#pragma 5", 0),
+    (b"  #pragma (", 2),
+    (b"#includes <a>", 0),
+    (b"#define A", 0),
+    (b"#", 0),
+    (b"x # include", 2),
+    (b"x /* \n */ # include", 10),
+    (b"#pragma balance #", 16),
+    (b"#pragma balance begin\n@", 22),
+];
+
+/// The first text whose reading doesn't stop there.
+fn first_other_stop(alloc: Global) -> Option<usize> {
+    for (i, (text, byte)) in WITHOUT.iter().enumerate() {
+        if !stops_at(alloc, text, *byte) {
+            return Some(i);
+        }
+    }
+    None
+}
+
+#[test]
+fn texts_without_tokens(rt: HostRuntime) {
+    assert_eq!(rt; first_other_stop(rt.alloc()), None);
+}
+
+/// Tokens, each by its kind, its first place and the place behind it.
+type Places = &'static [(TokenKind, u32, u32)];
+
+/// The first text that has other tokens.
+fn first_other(alloc: Global, texts: &[(&[u8], Places)]) -> Option<usize> {
+    for (i, (text, expected)) in texts.iter().enumerate() {
+        if !has_tokens(alloc, text, expected) {
+            return Some(i);
+        }
+    }
+    None
+}
+
+const FIVE: TokenKind = TokenKind::Literal(5);
+
+const LARGE: TokenKind = TokenKind::Literal(18446744073709551615);
+
+const WITH: [(&[u8], Places); 7] = [
+    (b"", &[]),
+    (
+        b"5ULL 5llu 0XfF",
+        &[
+            (FIVE, 0, 4),
+            (FIVE, 5, 9),
+            (TokenKind::Literal(255), 10, 14),
+        ],
+    ),
+    (b"18446744073709551615", &[(LARGE, 0, 20)]),
+    (
+        b"0\r\n\t\x0c_a1",
+        &[(TokenKind::Literal(0), 0, 1), (TokenKind::Word, 5, 8)],
+    ),
+    (b"+++=", &[(TokenKind::Mark, 0, 2), (TokenKind::Mark, 2, 4)]),
+    (
+        b"<<= --%",
+        &[
+            (TokenKind::Mark, 0, 2),
+            (TokenKind::Mark, 2, 3),
+            (TokenKind::Mark, 4, 6),
+            (TokenKind::Mark, 6, 7),
+        ],
+    ),
+    (
+        b"a/**/b//c\n/",
+        &[
+            (TokenKind::Word, 0, 1),
+            (TokenKind::Word, 5, 6),
+            (TokenKind::Mark, 10, 11),
+        ],
+    ),
+];
+
+#[test]
+fn texts_with_tokens(rt: HostRuntime) {
+    assert_eq!(rt; first_other(rt.alloc(), &WITH), None);
+}
+
+const LINES: [(&[u8], Places); 6] = [
+    (
+        b"#pragma balance range n 1",
+        &[
+            (TokenKind::Directive, 0, 15),
+            (TokenKind::Word, 16, 21),
+            (TokenKind::Word, 22, 23),
+            (TokenKind::Literal(1), 24, 25),
+            (TokenKind::EndLine, 25, 25),
+        ],
+    ),
+    (
+        b" #\tpragma\x0cbalance\r\nx",
+        &[
+            (TokenKind::Directive, 1, 17),
+            (TokenKind::EndLine, 18, 19),
+            (TokenKind::Word, 19, 20),
+        ],
+    ),
+    (
+        b"#/* \n */pragma balance /*\n*/ begin // x\ny",
+        &[
+            (TokenKind::Directive, 0, 22),
+            (TokenKind::Word, 29, 34),
+            (TokenKind::EndLine, 39, 40),
+            (TokenKind::Word, 40, 41),
+        ],
+    ),
+    (
+        b"/* \n */ # pragma balance\n",
+        &[(TokenKind::Directive, 8, 24), (TokenKind::EndLine, 24, 25)],
+    ),
+    (b"#include \"@\" // /*\ny", &[(TokenKind::Word, 19, 20)]),
+    (
+        b"#pragma\n#pragma omp 08 /* @\n */ @\n# include\n\tx",
+        &[(TokenKind::Word, 45, 46)],
+    ),
+];
+
+#[test]
+fn directives_and_skipped_lines(rt: HostRuntime) {
+    assert_eq!(rt; first_other(rt.alloc(), &LINES), None);
+}
+
 /// A word of so many bytes, behind these.
 fn word_behind(alloc: Global, front: &[u8], bytes: usize) -> Result<Vec<u8>, AllocError> {
     let mut text = Vec::from_slice(alloc, front)?;
@@ -44,183 +190,37 @@ fn word_behind(alloc: Global, front: &[u8], bytes: usize) -> Result<Vec<u8>, All
     Ok(text)
 }
 
-#[test]
-fn texts_without_tokens(rt: HostRuntime) {
-    let texts = [
-        (b"x = 08;".as_slice(), 4),
-        (b"a@b".as_slice(), 1),
-        (b"/* open".as_slice(), 0),
-        (b"0xg".as_slice(), 0),
-        (b"5lL".as_slice(), 0),
-        (b"5uu".as_slice(), 0),
-        (b"5lul".as_slice(), 0),
-        (b"5a".as_slice(), 0),
-        (b"x 5_".as_slice(), 2),
-        (b"0x".as_slice(), 0),
-        (b"18446744073709551616".as_slice(), 0),
-        (b"0x10000000000000000".as_slice(), 0),
-        (b"aa ! b".as_slice(), 3),
-        (b"\"s\"".as_slice(), 0),
-        (b"a \xff".as_slice(), 2),
-        (b"# /* open".as_slice(), 0),
-        (b"#include <a> /* open".as_slice(), 13),
-        (b"#pragma omp /* open".as_slice(), 12),
-        (b"#pragma 5".as_slice(), 0),
-        (b"  #pragma (".as_slice(), 2),
-        (b"#includes <a>".as_slice(), 0),
-        (b"#define A".as_slice(), 0),
-        (b"#".as_slice(), 0),
-        (b"x # include".as_slice(), 2),
-        (b"x /* \n */ # include".as_slice(), 10),
-        (b"#pragma balance #".as_slice(), 16),
-        (b"#pragma balance begin\n@".as_slice(), 22),
-    ];
-    for (text, byte) in texts {
-        assert!(rt; stops_at(rt.alloc(), text, byte), "at {byte}");
+fn word_has(alloc: Global, word: (&[u8], usize), expected: &[(TokenKind, u32, u32)]) -> bool {
+    match word_behind(alloc, word.0, word.1) {
+        Ok(text) => has_tokens(alloc, text.as_slice(), expected),
+        Err(_) => false,
+    }
+}
+
+fn word_stops_at(alloc: Global, front: &[u8], bytes: usize, byte: u32) -> bool {
+    match word_behind(alloc, front, bytes) {
+        Ok(text) => stops_at(alloc, text.as_slice(), byte),
+        Err(_) => false,
     }
 }
 
 #[test]
-fn texts_with_tokens(rt: HostRuntime) {
-    let alloc = rt.alloc();
-    let five = TokenKind::Literal(5);
-    let large = TokenKind::Literal(18446744073709551615);
-    assert!(rt; has_tokens(alloc, b"", &[]));
-    assert!(rt;
-        has_tokens(
-            alloc,
-            b"5ULL 5llu 0XfF",
-            &[
-                (five, 0, 4),
-                (five, 5, 9),
-                (TokenKind::Literal(255), 10, 14)
-            ]
-        )
-    );
-    assert!(rt; has_tokens(alloc, b"18446744073709551615", &[(large, 0, 20)]));
-    assert!(rt;
-        has_tokens(
-            alloc,
-            b"0\r\n\t\x0c_a1",
-            &[(TokenKind::Literal(0), 0, 1), (TokenKind::Word, 5, 8)]
-        )
-    );
-    assert!(rt;
-        has_tokens(
-            alloc,
-            b"+++=",
-            &[(TokenKind::Mark, 0, 2), (TokenKind::Mark, 2, 4)]
-        )
-    );
-    assert!(rt;
-        has_tokens(
-            alloc,
-            b"<<= --%",
-            &[
-                (TokenKind::Mark, 0, 2),
-                (TokenKind::Mark, 2, 3),
-                (TokenKind::Mark, 4, 6),
-                (TokenKind::Mark, 6, 7)
-            ]
-        )
-    );
-    assert!(rt;
-        has_tokens(
-            alloc,
-            b"a/**/b//c\n/",
-            &[
-                (TokenKind::Word, 0, 1),
-                (TokenKind::Word, 5, 6),
-                (TokenKind::Mark, 10, 11)
-            ]
-        )
-    );
-}
-
-#[test]
-fn directives_and_skipped_lines(rt: HostRuntime) {
-    let alloc = rt.alloc();
-    let word = TokenKind::Word;
-    let end = TokenKind::EndLine;
-    assert!(rt;
-        has_tokens(
-            alloc,
-            b"#pragma balance range n 1",
-            &[
-                (TokenKind::Directive, 0, 15),
-                (word, 16, 21),
-                (word, 22, 23),
-                (TokenKind::Literal(1), 24, 25),
-                (end, 25, 25)
-            ]
-        )
-    );
-    assert!(rt;
-        has_tokens(
-            alloc,
-            b" #\tpragma\x0cbalance\r\nx",
-            &[(TokenKind::Directive, 1, 17), (end, 18, 19), (word, 19, 20)]
-        )
-    );
-    assert!(rt;
-        has_tokens(
-            alloc,
-            b"#/* \n */pragma balance /*\n*/ begin // x\ny",
-            &[
-                (TokenKind::Directive, 0, 22),
-                (word, 29, 34),
-                (end, 39, 40),
-                (word, 40, 41)
-            ]
-        )
-    );
-    assert!(rt;
-        has_tokens(
-            alloc,
-            b"/* \n */ # pragma balance\n",
-            &[(TokenKind::Directive, 8, 24), (end, 24, 25)]
-        )
-    );
-    assert!(rt; has_tokens(alloc, b"#include \"@\" // /*\ny", &[(word, 19, 20)]));
-    assert!(rt;
-        has_tokens(
-            alloc,
-            b"#pragma\n#pragma omp 08 /* @\n */ @\n# include\n\tx",
-            &[(word, 45, 46)]
-        )
-    );
-}
-
-#[test]
-fn long_words(rt: HostRuntime) -> Result<(), Fail> {
+fn long_words(rt: HostRuntime) {
     let alloc = rt.alloc();
     let printed = preamble();
     let start = printed.len() as u32;
+    assert!(rt; word_has(alloc, (b"", 255), &[(TokenKind::Word, 0, 255)]));
+    assert!(rt; word_stops_at(alloc, b"a ", 256, 2));
     assert!(rt;
-        has_tokens(
+        word_has(
             alloc,
-            word_behind(alloc, b"", 255)?.as_slice(),
-            &[(TokenKind::Word, 0, 255)]
-        )
-    );
-    assert!(rt; stops_at(alloc, word_behind(alloc, b"a ", 256)?.as_slice(), 2));
-    assert!(rt;
-        has_tokens(
-            alloc,
-            word_behind(alloc, printed, 262)?.as_slice(),
+            (printed, 262),
             &[
                 (TokenKind::Preamble, 0, start),
                 (TokenKind::Word, start, start + 262)
             ]
         )
     );
-    assert!(rt; stops_at(alloc, word_behind(alloc, printed, 263)?.as_slice(), start));
-    assert!(rt;
-        has_tokens(
-            alloc,
-            word_behind(alloc, b"#include ", 300)?.as_slice(),
-            &[]
-        )
-    );
-    Ok(())
+    assert!(rt; word_stops_at(alloc, printed, 263, start));
+    assert!(rt; word_has(alloc, (b"#include ", 300), &[]));
 }

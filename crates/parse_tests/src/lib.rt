@@ -14,6 +14,8 @@ mod lexes;
 #[cfg(test)]
 mod limits;
 #[cfg(test)]
+mod made;
+#[cfg(test)]
 mod places;
 #[cfg(test)]
 mod printed_texts;

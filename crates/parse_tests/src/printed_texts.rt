@@ -1,9 +1,10 @@
 //! Printed texts: the forms that sources don't have.
 
+use crate::made::{found_in_made, is_made_unit};
 use c_tree::preamble;
 use sample_texts::shown::shown;
-use sample_texts::texts::{Found, GUARDED, VERDICT, found_in, is_unit, joined, kind_of, printed};
-use std::test::Fail;
+use sample_texts::texts::{Found, GUARDED, VERDICT, found_in, joined, kind_of, printed};
+use std::alloc::Global;
 
 const GUARDED_UNIT: &[u8] = b"bal_fn_shift (version 1) (range n 1 1000) (int n) (array A[n]) \
 (word bal_r0 0) (word bal_w 0) (wide bal_k) (wide bal_def0) (wide bal_use0) \
@@ -17,28 +18,35 @@ begin \
 (+= bal_def0 (* (wide bal_w) bal_k))) \
 verdict";
 
+/// Whether the parts, one behind another, have this unit.
+fn have_unit(alloc: Global, parts: &[&[u8]], shown: &[u8]) -> bool {
+    is_made_unit(alloc, joined(alloc, parts), shown)
+}
+
+/// What is found in the parts, one behind another.
+fn found_in_parts(alloc: Global, parts: &[&[u8]]) -> Found {
+    found_in_made(alloc, joined(alloc, parts))
+}
+
 #[test]
-fn reads_a_guarded_shift(rt: HostRuntime) -> Result<(), Fail> {
-    let text = joined(rt.alloc(), &[preamble(), GUARDED])?;
-    assert!(rt; is_unit(rt.alloc(), text.as_slice(), GUARDED_UNIT));
-    Ok(())
+fn reads_a_guarded_shift(rt: HostRuntime) {
+    assert!(rt; have_unit(rt.alloc(), &[preamble(), GUARDED], GUARDED_UNIT));
 }
 
 /// Without its preamble, with the preamble's last line feed left out, or with it further on, a text is
 /// no printed one.
 #[test]
-fn wants_the_preamble_first(rt: HostRuntime) -> Result<(), Fail> {
+fn wants_the_preamble_first(rt: HostRuntime) {
     let alloc = rt.alloc();
     assert_eq!(rt; found_in(alloc, GUARDED), Found::NoUnit);
-    let later = joined(alloc, &[b"\n", preamble(), GUARDED])?;
-    assert_eq!(rt; found_in(alloc, later.as_slice()), Found::NoTokens);
+    let later = found_in_parts(alloc, &[b"\n", preamble(), GUARDED]);
+    assert_eq!(rt; later, Found::NoTokens);
     if let [short @ .., _feed] = preamble() {
-        let without = joined(alloc, &[short, b" ", GUARDED])?;
-        assert_eq!(rt; found_in(alloc, without.as_slice()), Found::NoTokens);
+        let without = found_in_parts(alloc, &[short, b" ", GUARDED]);
+        assert_eq!(rt; without, Found::NoTokens);
     }
-    let twice = joined(alloc, &[preamble(), preamble(), GUARDED])?;
-    assert_eq!(rt; found_in(alloc, twice.as_slice()), Found::NoTokens);
-    Ok(())
+    let twice = found_in_parts(alloc, &[preamble(), preamble(), GUARDED]);
+    assert_eq!(rt; twice, Found::NoTokens);
 }
 
 /// What stands before `begin`, what behind it, and the trees.
@@ -71,14 +79,27 @@ const FORMS: [(&str, &str, &str); 6] = [
     ),
 ];
 
-#[test]
-fn reads_printed_forms(rt: HostRuntime) -> Result<(), Fail> {
-    for (before, behind, trees) in &FORMS {
-        let unit = printed(rt.alloc(), before.as_bytes(), behind.as_bytes(), VERDICT)?;
-        let made = shown(rt.alloc(), unit.body.as_slice());
-        assert_eq!(rt; made.as_slice(), trees.as_bytes(), "{before} {behind}");
+/// Whether the printed text is read, and gives the trees.
+fn is_form(alloc: Global, before: &str, behind: &str, trees: &str) -> bool {
+    match printed(alloc, before.as_bytes(), behind.as_bytes(), VERDICT) {
+        Ok(unit) => shown(alloc, unit.body.as_slice()).as_slice() == trees.as_bytes(),
+        Err(_) => false,
     }
-    Ok(())
+}
+
+/// The first of the forms that doesn't give its trees.
+fn first_unlike(alloc: Global) -> Option<usize> {
+    for (i, (before, behind, trees)) in FORMS.iter().enumerate() {
+        if !is_form(alloc, before, behind, trees) {
+            return Some(i);
+        }
+    }
+    None
+}
+
+#[test]
+fn reads_printed_forms(rt: HostRuntime) {
+    assert_eq!(rt; first_unlike(rt.alloc()), None);
 }
 
 /// A check of a third array, one of another form, tables with two names, of another element, with
@@ -107,36 +128,54 @@ const NO_VERDICTS: [&str; 7] = [
     "return (uint64_t)(bal_def0 != bal_use0) << 0 | (uint64_t)(bal_def1 != bal_use1) << 0;",
 ];
 
-#[test]
-fn refuses_printed_forms(rt: HostRuntime) -> Result<(), Fail> {
+/// What is found in a printed text with these statements before `begin`, and this last one.
+fn printed_found(alloc: Global, before: &[u8], last: &[u8]) -> Found {
+    kind_of(&printed(alloc, before, b"", last))
+}
+
+/// The first of the statements that aren't refused.
+fn first_form(alloc: Global) -> Option<&'static str> {
     for text in &NO_FORMS {
-        let answer = printed(rt.alloc(), text.as_bytes(), b"", VERDICT);
-        assert_eq!(rt; kind_of(&answer), Found::NoUnit, "{text}");
+        if printed_found(alloc, text.as_bytes(), VERDICT) != Found::NoUnit {
+            return Some(*text);
+        }
     }
+    None
+}
+
+/// The first of the verdicts that isn't refused.
+fn first_verdict(alloc: Global) -> Option<&'static str> {
     for text in &NO_VERDICTS {
-        let answer = printed(rt.alloc(), b"", b"", text.as_bytes());
-        assert_eq!(rt; kind_of(&answer), Found::NoUnit, "{text}");
+        if printed_found(alloc, b"", text.as_bytes()) != Found::NoUnit {
+            return Some(*text);
+        }
     }
-    Ok(())
+    None
+}
+
+#[test]
+fn refuses_printed_forms(rt: HostRuntime) {
+    assert_eq!(rt; first_form(rt.alloc()), None);
+    assert_eq!(rt; first_verdict(rt.alloc()), None);
 }
 
 /// Without arrays a printed text returns 0, and has no other verdict.
 #[test]
-fn returns_nothing_without_arrays(rt: HostRuntime) -> Result<(), Fail> {
+fn returns_nothing_without_arrays(rt: HostRuntime) {
     let head =
         b"#pragma balance version 1\nuint64_t f(int64_t n) {\n#pragma balance begin\nreturn ";
-    let text = joined(rt.alloc(), &[preamble(), head, b"0x0;}"])?;
     assert!(rt;
-        is_unit(
+        have_unit(
             rt.alloc(),
-            text.as_slice(),
+            &[preamble(), head, b"0x0;}"],
             b"f (version 1) (int n) begin verdict"
         )
     );
-    let text = joined(
-        rt.alloc(),
-        &[preamble(), head, b"(uint64_t)(bal_def0 != bal_use0) << 0;}"],
-    )?;
-    assert_eq!(rt; found_in(rt.alloc(), text.as_slice()), Found::NoUnit);
-    Ok(())
+    assert_eq!(rt;
+        found_in_parts(
+            rt.alloc(),
+            &[preamble(), head, b"(uint64_t)(bal_def0 != bal_use0) << 0;}"]
+        ),
+        Found::NoUnit
+    );
 }
